@@ -109,7 +109,7 @@ fn lacks_white_space(bytes: &[u8]) -> bool
 }
 
 /// Whether the byte is skipped at the front: `/`, `\` and white space.
-fn is_skipped(byte: u8) -> bool
+pub fn is_skipped(byte: u8) -> bool
     ensures { result ≡ is_skipped byte }
 {
     byte == b'/' || byte == b'\\' || byte.is_ascii_whitespace()

@@ -6,7 +6,7 @@ ghost use Rattle.git_syntax.specs.Internal.SchemeRules.{scheme_named};
 ghost use Rattle.git_syntax.specs.Schemes.{is_web_scheme, host_syntax_of, scheme_of, requires_host, requires_path};
 
 use crate::host::HostSyntax;
-use crate::scheme::{KnownScheme, is_ftp, is_named, scheme_of};
+use crate::scheme::{KnownScheme, is_ftp, scheme_of};
 
 /// The rules that the scheme of a URL sets for the rest of the URL.
 #[derive(Clone, Copy)]
@@ -36,7 +36,7 @@ pub fn rules_of(scheme: &[u8]) -> Rules
         KnownScheme::Http => web(known),
         KnownScheme::Https => web(known),
         KnownScheme::Git => transport(known, true),
-        KnownScheme::Ssh => transport(known, is_named(scheme, "ssh")),
+        KnownScheme::Ssh => transport(known, matches!(scheme, b"ssh")),
         KnownScheme::File => plain(known, false),
         KnownScheme::Ext => plain(known, false),
         KnownScheme::Other => plain(known, is_ftp(scheme)),

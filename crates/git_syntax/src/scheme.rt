@@ -99,10 +99,10 @@ impl<'a> SchemeRef<'a> {
 pub fn helper_scheme(name: &str) -> SchemeRef<'_>
     ensures { borrowed_scheme result ≡ helper_scheme name.now }
 {
-    if name == "ext" {
-        return SchemeRef::Ext;
+    match name.as_bytes() {
+        b"ext" => SchemeRef::Ext,
+        _ => SchemeRef::Helper(name),
     }
-    SchemeRef::Helper(name)
 }
 
 /// The known schemes, and one variant for all others. Names are compared byte for byte.
@@ -128,26 +128,16 @@ pub enum KnownScheme {
 pub fn scheme_of(text: &[u8]) -> KnownScheme
     ensures { scheme_named result text.now ≡ scheme_of text.now }
 {
-    // Most URLs are of HTTPS.
-    if is_named(text, "https") {
-        return KnownScheme::Https;
+    match text {
+        b"https" => KnownScheme::Https,
+        b"ssh" => KnownScheme::Ssh,
+        b"file" => KnownScheme::File,
+        b"git" => KnownScheme::Git,
+        b"http" => KnownScheme::Http,
+        b"ext" => KnownScheme::Ext,
+        _ if is_ssh_scheme(text) => KnownScheme::Ssh,
+        _ => KnownScheme::Other,
     }
-    if is_ssh_scheme(text) {
-        return KnownScheme::Ssh;
-    }
-    if is_named(text, "file") {
-        return KnownScheme::File;
-    }
-    if is_named(text, "git") {
-        return KnownScheme::Git;
-    }
-    if is_named(text, "http") {
-        return KnownScheme::Http;
-    }
-    if is_named(text, "ext") {
-        return KnownScheme::Ext;
-    }
-    KnownScheme::Other
 }
 
 /// Whether the text is the name of a known scheme.
@@ -183,7 +173,7 @@ pub fn is_ftp(text: &[u8]) -> bool
 }
 
 /// Whether the text is exactly the name.
-pub(crate) fn is_named(text: &[u8], name: &str) -> bool
+fn is_named(text: &[u8], name: &str) -> bool
     ensures { result ≡ bytes_eq text.now name.now }
 {
     text == name.as_bytes()

@@ -18,7 +18,7 @@ use crate::home::begins_at_home;
 use crate::host::HostSyntax;
 use crate::host::port::read_port;
 use crate::masks::marked::{Marked, mark_common};
-use crate::scheme::{SchemeRef, helper_scheme, is_named};
+use crate::scheme::{SchemeRef, helper_scheme};
 use crate::text::as_text;
 
 /// The fields of the location that a simple text spells, as slices of the text. There is no password and no spelling.
@@ -42,29 +42,24 @@ pub struct SimplePieces<'a> {
 pub fn is_simple_text(bytes: &[u8]) -> bool
     ensures { IsTrue result → (v : Location) × IsSimpleText bytes.now v }
 {
-    matches!(simple_pieces::<true>(bytes), Some(_))
+    matches!(simple_pieces(bytes), Some(_))
 }
 
 /// Returns the fields of the location that the text spells, if the text is known to be a simple one. Such a
 /// location is settled, and the text is its own. If the result is `None`, nothing is known.
 ///
 /// The code accepts only texts of 16 to 64 bytes, each of which is a letter, a digit, or one of `+`, `,`, `-`,
-/// `.`, `/`, `:`, `@`, `_` and `~`. Without `FILES` it accepts none with `f` in front, as a `file` URL has: the
-/// general reader takes fewer instructions for these. For each value of `FILES` the compiler makes a function
-/// of its own, which it inlines if only one caller has that value.
+/// `.`, `/`, `:`, `@`, `_` and `~`.
 #[inline(always)]
-pub fn simple_pieces<const FILES: bool>(bytes: &[u8]) -> Option<SimplePieces<'_>>
+pub fn simple_pieces(bytes: &[u8]) -> Option<SimplePieces<'_>>
     ensures { IfSome result (λ pieces. IsSimpleText bytes.now (simple_location pieces)) }
 {
-    if !FILES && starts_with_byte(bytes, b'f') {
-        return None;
-    }
-    cut_simple::<FILES>(mark_common(bytes)?)
+    cut_simple(mark_common(bytes)?)
 }
 
 /// The fields of the location that such a text spells.
 #[inline(always)]
-fn cut_simple<const FILES: bool>(text: Marked<'_>) -> Option<SimplePieces<'_>>
+fn cut_simple(text: Marked<'_>) -> Option<SimplePieces<'_>>
     requires marked { IsMarked text }
     requires long { 16 ≤ length text.text.now }
     requires common { is_common text.text.now ≡ true }
@@ -74,8 +69,8 @@ fn cut_simple<const FILES: bool>(text: Marked<'_>) -> Option<SimplePieces<'_>>
         return Some(path_pieces(SchemeRef::File, true, text.text));
     };
     match rest.after_slashes() {
-        Some(suffix) => url_pieces::<FILES>(text.text, front.text, suffix),
-        None => other_pieces::<FILES>(text.text, front, rest),
+        Some(suffix) => url_pieces(text.text, front.text, suffix),
+        None => other_pieces(text.text, front, rest),
     }
 }
 
@@ -96,11 +91,7 @@ fn path_pieces<'a>(scheme: SchemeRef<'a>, flag: bool, path: &'a [u8]) -> SimpleP
 
 /// The fields of a URL. The text is only for the contract.
 #[inline(always)]
-fn url_pieces<'a, const FILES: bool>(
-    input: &[u8],
-    scheme: &[u8],
-    rest: Marked<'a>,
-) -> Option<SimplePieces<'a>>
+fn url_pieces<'a>(input: &[u8], scheme: &[u8], rest: Marked<'a>) -> Option<SimplePieces<'a>>
     requires form { UrlForm input.now scheme.now rest.text.now }
     requires marked { IsMarked rest }
     requires short { length input.now ≤ 64 }
@@ -129,10 +120,9 @@ fn url_pieces<'a, const FILES: bool>(
     if !authority.text.is_empty() {
         return None;
     }
-    if is_named(scheme, "file") {
-        Some(path_pieces(SchemeRef::File, false, path.text))
-    } else {
-        None
+    match scheme {
+        b"file" => Some(path_pieces(SchemeRef::File, false, path.text)),
+        _ => None,
     }
 }
 
@@ -206,7 +196,7 @@ fn simple_port(digits: &[u8]) -> Option<u16>
 
 /// The fields of a remote helper, a local path or the scp form, by the texts before and after the first colon.
 #[inline(always)]
-fn other_pieces<'a, const FILES: bool>(
+fn other_pieces<'a>(
     input: &'a [u8],
     front: Marked<'a>,
     rest: Marked<'a>,

@@ -91,13 +91,15 @@ impl Url {
 }
 
 /// Reads the one location that the bytes spell: the slices that are found in them, copied.
+// Inlined, it would copy the location once more.
+#[inline(never)]
 fn read(alloc: Global, bytes: &[u8]) -> Result<Url, Error>
     ensures found { IfOk result (λ v. Spells bytes.now v) }
     ensures refused { IfErr result (λ e. Refuses bytes.now e) }
     ensures flaw { IfErr result (λ e. Flaw bytes.now e) }
     ensures empty { bytes.now ≡ [] → result ≡ Err Error.EmptyLocal }
 {
-    match simple_pieces::<true>(bytes) {
+    match simple_pieces(bytes) {
         Some(pieces) => Ok(build_simple(alloc, pieces)?),
         None => read_any(alloc, bytes),
     }

@@ -17,7 +17,7 @@ use crate::value::law_borrowed_value;
 use crate::writer::piece::Pieces;
 use crate::writer::sink::Sink;
 use git_syntax::bytes::starts_with_byte;
-use git_syntax::length::{LIMIT, LengthCheck};
+use git_syntax::length::{LIMIT, LengthCheck, is_skipped};
 use itoa::Buffer;
 use std::convert::Infallible;
 
@@ -87,7 +87,7 @@ fn begins_skipped(text: &[u8]) -> bool
 {
     match text {
         [] => false,
-        [first, ..] => *first == b'/' || *first == b'\\' || first.is_ascii_whitespace(),
+        [first, ..] => is_skipped(*first),
     }
 }
 

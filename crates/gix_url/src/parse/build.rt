@@ -18,9 +18,9 @@ use git_syntax::bytes::append_within;
 use git_syntax::found::{Found, ScpHost};
 use git_syntax::home::from_home;
 use git_syntax::host::build::{lowercase_address, normalize};
-use git_syntax::scheme::SchemeRef;
+use git_syntax::scheme::{SchemeRef, helper_scheme};
 use git_syntax::simple::SimplePieces;
-use git_syntax::text::into_text;
+use git_syntax::text::{as_text, into_text};
 use std::alloc::{AllocError, Global};
 
 /// The location that found slices denote.
@@ -30,7 +30,7 @@ pub(super) fn build(alloc: Global, found: Found<'_>) -> Result<Url, AllocError>
 {
     match found {
         Found::Helper { name, address } => {
-            let scheme = helper_scheme(alloc, name)?;
+            let scheme = copy_scheme(alloc, helper_scheme(as_text(name)))?;
             Ok(path_alone(scheme, true, copy(alloc, address)?))
         }
         Found::Local { path } => Ok(path_alone(Scheme::File, true, copy(alloc, path)?)),
@@ -90,17 +90,6 @@ fn copy_if_some(alloc: Global, text: Option<&str>) -> Result<Option<String>, All
         None => Ok(None),
         Some(text) => Ok(Some(String::from_str(alloc, text)?)),
     }
-}
-
-/// The scheme of a helper with this name.
-fn helper_scheme(alloc: Global, name: &[u8]) -> Result<Scheme, AllocError>
-    requires { IsUtf8 name.now }
-    ensures { IfOk result (λ scheme. owned_scheme scheme ≡ helper_scheme name.now) }
-{
-    if name == b"ext".as_slice() {
-        return Ok(Scheme::Ext);
-    }
-    Ok(Scheme::Helper(copy_text(alloc, name)?))
 }
 
 /// A location of Secure Shell with this user, this host and this path.

@@ -3,7 +3,7 @@ use Rattle.git_syntax.proofs.Parsing.ClassifierLemmas.{mark_at_colon, url_has_fo
 use Rattle.git_syntax.proofs.simple.cut_simple.Goals as goal
 
 pub url_pieces-requires-clause-form : goal.url_pieces-requires-clause-form
-url_pieces-requires-clause-form g c =
+url_pieces-requires-clause-form c =
     let b = c.args.text.text.now in
     let front = c.in-Some.front.text.now in
     let rest = c.in-Some.rest.text.now in

@@ -10,18 +10,18 @@ use Rattle.git_syntax.proofs.Parsing.HostLemmas.{some_tested}
 use Rattle.git_syntax.proofs.simple.other_pieces.Goals as goal
 
 pub helper_pieces-requires : goal.helper_pieces-requires
-helper_pieces-requires g c =
+helper_pieces-requires c =
     let front = c.args.front.text.now in
     common_utf8 front (common_around c.args.input.now front c.args.rest.text.now colon c.requires.common c.requires.cut.joined).0
 
 pub returns-then-not-lacks_slashes : goal.returns-then-not-lacks_slashes
-returns-then-not-lacks_slashes g c =
+returns-then-not-lacks_slashes c =
     let free = c.if-not-lacks_colons.ensures.0 refl in
     let local = slashed_local c.args.input.now c.args.front.text.now c.args.rest.text.now c.requires.common c.requires.cut c.requires.no_mark free (λ none. false≢true (c.if-not-lacks_slashes.ensures.1 none)) in
     subst (λ v. IsSimpleText c.args.input.now v) (sym c.path_pieces.ensures) (local_text local)
 
 pub returns : goal.returns
-returns g c =
+returns c =
     let rest = c.args.rest.text.now in
     let front = c.args.front.text.now in
     simple_scp c.args.input.now front rest _ _ c.requires.common c.requires.cut c.requires.no_mark (c.if-not-lacks_colons.ensures.0 refl) (some_tested rest c.if-is_empty.ensures) (sym c.if-begins_at_home.ensures)

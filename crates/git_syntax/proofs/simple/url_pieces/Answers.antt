@@ -1,6 +1,6 @@
 -- A URL with a simple host, or a file URL without a host.
-use Rattle.std.proofs.Common.{codes, sym, subst}
-use Rattle.std.proofs.lemmas.Slice.Eq.{bytes_eq-Decides}
+use Rattle.std.proofs.Common.{◌≡◌, arith, codes, sym, subst}
+use Rattle.std.proofs.lemmas.Grind.{common_steps}
 use Rattle.git_syntax.specs.SimpleTexts.{IsSimpleText}
 use Rattle.git_syntax.specs.Views.{borrowed_scheme}
 use Rattle.git_syntax.proofs.ByMasks.CommonLemmas.{rooted}
@@ -10,18 +10,18 @@ use Rattle.git_syntax.proofs.Parsing.HostLemmas.{some_tested}
 use Rattle.git_syntax.proofs.simple.url_pieces.Goals as goal
 
 pub returns-in-Some : goal.returns-in-Some
-returns-in-Some g c =
+returns-in-Some c =
     let authority = c.cut_at_slash.result.0.text.now in
     let path = c.cut_at_slash.result.1.text.now in
     let some = some_tested path c.if-is_empty.ensures in
     simple_url c.args.input.now c.args.scheme.now c.args.rest.text.now authority path c.in_ok-user.piece.text.now (borrowed_scheme c.in-Some.scheme) _ _ _ c.requires.form c.requires.common c.requires.short
     c.cut_at_slash.ensures.joined some (rooted path some c.cut_at_slash.ensures.rest) (sym c.if-begins_at_home.ensures) c.in-Some.ensures.remote c.in-Some.ensures.text c.in_ok-user.ensures.cut c.in_ok-host.ensures
 
-pub returns-then-is_named : goal.returns-then-is_named
-returns-then-is_named g c =
+pub returns-in-file : goal.returns-in-file
+returns-in-file c =
     let authority = c.cut_at_slash.result.0.text.now in
     let path = c.cut_at_slash.result.1.text.now in
-    let named = (bytes_eq-Decides c.args.scheme.now (codes "file")).0 (sym c.if-is_named.ensures) in
+    let named : c.args.scheme.now ≡ codes "file" = grind (arith, common_steps) in
     let found = simple_file c.args.input.now c.args.scheme.now c.args.rest.text.now authority path c.requires.form c.requires.common named c.cut_at_slash.ensures.joined (nil_tested authority c.if-not-is_empty.ensures)
     (rooted path (some_tested path c.if-is_empty.ensures) c.cut_at_slash.ensures.rest) in
     subst (λ v. IsSimpleText c.args.input.now v) (sym c.path_pieces.ensures) found
