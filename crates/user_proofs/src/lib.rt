@@ -1,4 +1,5 @@
-//! Functions that users of `gix_url` and `git_rules` prove by their contracts alone, and the examples of the documents.
+//! Functions that users of `gix_url`, `git_rules` and `git_modules` prove by their contracts alone, and the
+//! examples of the documents.
 #![tactic(auto)]
 
 #[cfg(test)]
@@ -13,6 +14,9 @@ mod components;
 pub mod credentials;
 #[cfg(test)]
 mod failing;
+pub mod modules;
+pub mod parts;
+pub mod policy;
 #[cfg(test)]
 mod reading;
 #[cfg(test)]
