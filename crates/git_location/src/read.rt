@@ -38,7 +38,7 @@ impl<'a> UrlRef<'a> {
     pub fn parse_in(text: &'a [u8], buffer: &'a mut [u8]) -> Result<UrlRef<'a>, ParseError>
         ensures { ReadsIn text.now (length buffer.old) result }
     {
-        if let Some(pieces) = simple_pieces(text) {
+        if let Some(pieces) = simple_pieces::<false>(text) {
             if buffer.len() < text.len() {
                 return Err(ParseError::NoRoom);
             }

@@ -42,16 +42,17 @@ pub struct SimplePieces<'a> {
 pub fn is_simple_text(bytes: &[u8]) -> bool
     ensures { IsTrue result → (v : Location) × IsSimpleText bytes.now v }
 {
-    matches!(simple_pieces(bytes), Some(_))
+    matches!(simple_pieces::<true>(bytes), Some(_))
 }
 
 /// Returns the fields of the location that the text spells, if the text is known to be a simple one. Such a
 /// location is settled, and the text is its own. If the result is `None`, nothing is known.
 ///
 /// The code accepts only texts of 16 to 64 bytes, each of which is a letter, a digit, or one of `+`, `,`, `-`,
-/// `.`, `/`, `:`, `@`, `_` and `~`.
+/// `.`, `/`, `:`, `@`, `_` and `~`. For each value of `OWNED`, which is `false` for the reader into a buffer, the
+/// compiler makes a function of its own, which it inlines if only one caller has that value.
 #[inline(always)]
-pub fn simple_pieces(bytes: &[u8]) -> Option<SimplePieces<'_>>
+pub fn simple_pieces<const OWNED: bool>(bytes: &[u8]) -> Option<SimplePieces<'_>>
     ensures { IfSome result (λ pieces. IsSimpleText bytes.now (simple_location pieces)) }
 {
     cut_simple(mark_common(bytes)?)

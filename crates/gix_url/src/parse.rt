@@ -99,7 +99,7 @@ fn read(alloc: Global, bytes: &[u8]) -> Result<Url, Error>
     ensures flaw { IfErr result (λ e. Flaw bytes.now e) }
     ensures empty { bytes.now ≡ [] → result ≡ Err Error.EmptyLocal }
 {
-    match simple_pieces(bytes) {
+    match simple_pieces::<true>(bytes) {
         Some(pieces) => Ok(build_simple(alloc, pieces)?),
         None => read_any(alloc, bytes),
     }
