@@ -1,20 +1,22 @@
 -- Simple texts, which most remotes are: the text of the location that such a text spells is the text itself.
 use Rattle.std.specs.Prelude.{◌≡◌, ℕ, ◌<◌, ◌≤◌, true, false, List, ◌∷◌, ◌++◌, length, codes, Option, Some, IfSome, IsUtf8}
 use Rattle.git_syntax.specs.Location.{Scheme, Location, path_alone}
-use Rattle.git_syntax.specs.Location.Scheme.{file, git, ssh, http, https}
-use Rattle.git_syntax.specs.Bytes.{slash, colon, FreeOf, begins_with}
-use Rattle.git_syntax.specs.Schemes.{scheme_text}
+use Rattle.git_syntax.specs.Location.Scheme.{file, git, ssh, http, https, helper_url}
+use Rattle.git_syntax.specs.Bytes.{slash, colon, FreeOf, begins_with, is_scheme_text}
+use Rattle.git_syntax.specs.Schemes.{is_known_scheme, scheme_text}
 use Rattle.git_syntax.specs.Hosts.{port_part, raw_user}
 use Rattle.git_syntax.specs.Grammar.{SpellsHelper, SpellsLocal, begins_at_home}
 use Rattle.git_syntax.specs.Internal.HostPieces.{IsSimpleHost}
 use Rattle.git_syntax.specs.Internal.Masks.{is_common}
 
--- a scheme of HTTP, Secure Shell or Git's own protocol
+-- a scheme of HTTP, Secure Shell or Git's own protocol, or another one, whose URLs are for a remote helper
 pub data IsRemoteScheme : Scheme → Type 0 where
   of_git : IsRemoteScheme git
   of_ssh : IsRemoteScheme ssh
   of_http : IsRemoteScheme http
   of_https : IsRemoteScheme https
+  of_helper : (name : List ℕ) → is_scheme_text name ≡ true → is_known_scheme name ≡ false
+      → IsRemoteScheme (helper_url name)
 
 -- each byte of the text is common, the user and the host consist of lower-case letters, digits, `-` and `.`, and
 -- neither they nor the path are empty; the path doesn't begin at a home folder

@@ -13,12 +13,12 @@ ghost use Rattle.git_syntax.specs.Schemes.{scheme_text};
 ghost use Rattle.git_syntax.specs.SimpleTexts.{IsRemoteScheme, IsSimplePort, IsSimpleText};
 ghost use Rattle.git_syntax.specs.Views.{borrowed_scheme};
 
-use crate::bytes::{after, is_helper_name, starts_with_byte};
+use crate::bytes::{after, is_helper_name, is_scheme_text, starts_with_byte};
 use crate::home::begins_at_home;
 use crate::host::HostSyntax;
 use crate::host::port::read_port;
 use crate::masks::marked::{Marked, mark_common};
-use crate::scheme::{SchemeRef, helper_scheme};
+use crate::scheme::{KnownScheme, SchemeRef, helper_scheme, scheme_of};
 use crate::text::as_text;
 
 /// The fields of the location that a simple text spells, as slices of the text. There is no password and no spelling.
@@ -92,7 +92,7 @@ fn path_pieces<'a>(scheme: SchemeRef<'a>, flag: bool, path: &'a [u8]) -> SimpleP
 
 /// The fields of a URL. The text is only for the contract.
 #[inline(always)]
-fn url_pieces<'a>(input: &[u8], scheme: &[u8], rest: Marked<'a>) -> Option<SimplePieces<'a>>
+fn url_pieces<'a>(input: &[u8], scheme: &'a [u8], rest: Marked<'a>) -> Option<SimplePieces<'a>>
     requires form { UrlForm input.now scheme.now rest.text.now }
     requires marked { IsMarked rest }
     requires short { length input.now ≤ 64 }
@@ -127,9 +127,10 @@ fn url_pieces<'a>(input: &[u8], scheme: &[u8], rest: Marked<'a>) -> Option<Simpl
     }
 }
 
-/// The scheme, if it is one of HTTP, Secure Shell or Git's own protocol.
+/// The scheme, if it is one of HTTP, Secure Shell or Git's own protocol, or the URL is for a remote helper.
 #[inline(always)]
-fn remote_scheme<'a>(scheme: &[u8]) -> Option<SchemeRef<'a>>
+fn remote_scheme(scheme: &[u8]) -> Option<SchemeRef<'_>>
+    requires { IsUtf8 scheme.now }
     ensures remote { IfSome result (λ known. IsRemoteScheme (borrowed_scheme known)) }
     ensures text { IfSome result (λ known. scheme.now ≡ scheme_text (borrowed_scheme known)) }
 {
@@ -138,6 +139,19 @@ fn remote_scheme<'a>(scheme: &[u8]) -> Option<SchemeRef<'a>>
         b"ssh" => Some(SchemeRef::Ssh),
         b"http" => Some(SchemeRef::Http),
         b"git" => Some(SchemeRef::Git),
+        b"file" => None,
+        _ => helper_url_scheme(scheme),
+    }
+}
+
+/// The scheme of a URL for a remote helper, if it is the text.
+fn helper_url_scheme(name: &[u8]) -> Option<SchemeRef<'_>>
+    requires { IsUtf8 name.now }
+    ensures remote { IfSome result (λ known. IsRemoteScheme (borrowed_scheme known)) }
+    ensures text { IfSome result (λ known. name.now ≡ scheme_text (borrowed_scheme known)) }
+{
+    match scheme_of(name) {
+        KnownScheme::Other if is_scheme_text(name) => Some(SchemeRef::HelperUrl(as_text(name))),
         _ => None,
     }
 }

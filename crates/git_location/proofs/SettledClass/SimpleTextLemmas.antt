@@ -11,11 +11,11 @@ use Rattle.git_syntax.specs.Authority.{FitsText}
 use Rattle.git_syntax.specs.Escapes.{password_set, user_set}
 use Rattle.git_syntax.specs.Bytes.{FreeOf, at_sign, begins_with, colon, left_bracket, slash}
 use Rattle.git_syntax.specs.Location.{Location, Scheme, path_alone}
-use Rattle.git_syntax.specs.Location.Scheme.{file, git, ssh, http, https}
+use Rattle.git_syntax.specs.Location.Scheme.{file, git, ssh, http, https, helper_url}
 use Rattle.git_syntax.specs.Schemes.{requires_path, scheme_text}
 use Rattle.git_syntax.specs.SimpleTexts.{HasSimpleParts, IsRemoteScheme, IsSimplePort, IsSimpleText}
 use Rattle.git_syntax.specs.Hosts.{port_part, raw_user}
-use Rattle.git_syntax.specs.SimpleTexts.IsRemoteScheme.{of_git, of_ssh, of_http, of_https}
+use Rattle.git_syntax.specs.SimpleTexts.IsRemoteScheme.{of_git, of_helper, of_ssh, of_http, of_https}
 use Rattle.git_syntax.specs.SimpleTexts.IsSimpleText.{file_text, helper_text, local_text, scp_text, url_text}
 use Rattle.git_syntax.specs.Internal.HostPieces.{IsSimpleHost, is_simple_byte}
 use Rattle.git_syntax.specs.Internal.Masks.{is_common}
@@ -25,14 +25,14 @@ use Rattle.git_location.specs.Internal.KeptBytes.{is_unescaped_in_user}
 use Rattle.git_syntax.proofs.ByMasks.CommonLemmas.{common_around, common_parts, common_plain, short_fits}
 use Rattle.git_syntax.proofs.ByMasks.SimpleTextLemmas.{simple_free}
 use Rattle.git_syntax.proofs.Parsing.ClassifierLemmas.{file_mark_utf8}
-use Rattle.git_syntax.proofs.Texts.CutLemmas.{free_begins, held_free}
+use Rattle.git_syntax.proofs.Texts.CutLemmas.{free_begins, held_free, scheme_text_free}
 use Rattle.git_syntax.proofs.Texts.EscapeLemmas.{utf8_after}
 use Rattle.git_syntax.proofs.Texts.PlainLemmas.{plain_utf8}
 use Rattle.git_location.proofs.SettledClass.SettledLemmas.{plain_raw_path, simple_normal_name, simple_scp_name, simple_web_host}
 use Rattle.git_location.proofs.SettledClass.WebClassLemmas.{rooted_starts}
 use Rattle.git_location.proofs.SettledClass.UnchangedLemmas.{helper_unchanged, local_unchanged}
 use Rattle.git_location.proofs.Texts.UnescapedLemmas.{common_path, ready_password, ready_user}
-use Rattle.git_location.proofs.Writing.WrittenAsUrlLemmas.{written_git, written_secure, written_web}
+use Rattle.git_location.proofs.Writing.WrittenAsUrlLemmas.{written_git, written_other, written_secure, written_web}
 
 -- ---- bytes that are written as they are
 
@@ -78,12 +78,14 @@ host_kept p host of_http simple = refl
 host_kept p host of_https simple = refl
 host_kept p host of_git simple = encoded_host host simple
 host_kept p host of_ssh simple = encoded_host host simple
+host_kept p host (of_helper name spelled unknown) simple = encoded_host host simple
 
 path_kept : (p : Scheme) (path : List ℕ) → IsRemoteScheme p → is_common path ≡ true → plain_path p path ≡ path
 path_kept p path of_http common = common_path path common
 path_kept p path of_https common = common_path path common
 path_kept p path of_git common = refl
 path_kept p path of_ssh common = refl
+path_kept p path (of_helper name spelled unknown) common = refl
 
 no_root : (p : Scheme) (path : List ℕ) → begins_with slash path ≡ true → (requires_path p && not (begins_with slash path)) ≡ false
 no_root p path begins = rw begins (and_false (requires_path p))
@@ -156,6 +158,11 @@ url_unchanged b p user host path port remote parts allowed begins short joined =
         let common = path_common (codes "https") e in
         let is = (written_web v (inr refl)).canonical refl (λ _. refl, λ _. refl) ∙ ap Ok (simple_canonical https user host path port of_https parts.simple_user parts.simple_host common begins ∙ sym e) in
         (record { common = (url_common b https user host path port of_https parts.simple_user common is (fits (codes "https") refl e)).common; host = (host, refl, simple_web_host port host parts.simple_host); port = no_zero port allowed; path = rooted_starts path begins }, is)
+    by_scheme p (of_helper name spelled unknown) e =
+        let v = simple_value (helper_url name) false user host port path in
+        let common = path_common name e in
+        let is = (written_other v name refl spelled).canonical refl (λ _. refl, λ _. refl) ∙ ap Ok (simple_canonical (helper_url name) user host path port (of_helper name spelled unknown) parts.simple_user parts.simple_host common begins ∙ sym e) in
+        (record { url = url_common b (helper_url name) user host path port (of_helper name spelled unknown) parts.simple_user common is (fits name (scheme_text_free name colon spelled refl) e); scheme_text = spelled; unknown = unknown; host = inl (simple_normal_name host parts.simple_host); hosted = λ _. refl; path = inr begins }, is)
 
 -- ---- the scp form
 

@@ -6,7 +6,7 @@ use Rattle.percent_encoding.specs.Percent.{percent_decode}
 use Rattle.git_syntax.specs.Authority.Authority.{host_alone, with_user}
 use Rattle.git_syntax.specs.Authority.Credentials.{user_alone}
 use Rattle.git_syntax.specs.Bytes.{FreeOf, at_sign, begins_with, colon, is_scheme_text, left_bracket, slash}
-use Rattle.git_syntax.specs.Grammar.{begins_at_home, HasUrlSyntax, HostFor, IsSshHost, DenotesByScheme, ScpFront, ScpUser, Spells, UrlSyntax, from_home, or_root, path_for}
+use Rattle.git_syntax.specs.Grammar.{begins_at_home, HasUrlSyntax, HostFor, IsSshHost, DenotesAs, DenotesByScheme, ScpFront, ScpUser, Spells, UrlSyntax, from_home, or_root, path_for}
 use Rattle.git_syntax.specs.Grammar.Spells.{file_url, local_path, remote_helper, scp_form, url}
 use Rattle.git_syntax.specs.Hosts.{AllowsPort, HostSyntax, IsPlainHost, SpellsHostPort, port_part, raw_user}
 use Rattle.git_syntax.specs.Hosts.HostSyntax.{git_hosts, http_hosts, other_hosts}
@@ -14,10 +14,10 @@ use Rattle.git_syntax.specs.Hosts.SpellsHostPort.{plain_port}
 use Rattle.std.specs.Char.{is_ascii_digit}
 use Rattle.std.specs.Prelude.{decimal}
 use Rattle.git_syntax.specs.Location.{Location, Scheme, path_alone}
-use Rattle.git_syntax.specs.Location.Scheme.{git, ssh, http, https}
+use Rattle.git_syntax.specs.Location.Scheme.{git, ssh, http, https, helper_url}
 use Rattle.git_syntax.specs.Schemes.{host_syntax_of, is_web_scheme, requires_host, scheme_text}
 use Rattle.git_syntax.specs.SimpleTexts.{HasSimpleParts, IsRemoteScheme, IsSimplePort, IsSimpleText}
-use Rattle.git_syntax.specs.SimpleTexts.IsRemoteScheme.{of_git, of_ssh, of_http, of_https}
+use Rattle.git_syntax.specs.SimpleTexts.IsRemoteScheme.{of_git, of_helper, of_ssh, of_http, of_https}
 use Rattle.git_syntax.specs.SimpleTexts.IsSimpleText.{file_text, helper_text, local_text, scp_text, url_text}
 use Rattle.git_syntax.specs.Internal.HostPieces.{IsSimpleHost, is_simple_byte}
 use Rattle.git_syntax.specs.Internal.Masks.{is_common}
@@ -26,9 +26,10 @@ use Rattle.git_syntax.specs.Internal.UrlPieces.{HoldsHosted}
 use Rattle.git_syntax.proofs.ByMasks.CommonLemmas.{common_free_of_percent, common_parts, common_utf8, neither_by_colon, url_of_common}
 use Rattle.git_syntax.proofs.Parsing.ClassifierLemmas.{url_has_form}
 use Rattle.git_syntax.proofs.Parsing.HostLemmas.{decimal_digits, number_written, simple_decoded, simple_named, simple_text, simple_utf8}
+use Rattle.git_syntax.proofs.Parsing.SchemeLemmas.{unknown_helper, unknown_no_file}
 use Rattle.git_syntax.proofs.Parsing.ScpLemmas.{simple_scp_host}
 use Rattle.git_syntax.proofs.Parsing.UrlLemmas.{some_kept}
-use Rattle.git_syntax.proofs.Texts.CutLemmas.{free-append, free-cons, free_begins, free_of_all, not_free}
+use Rattle.git_syntax.proofs.Texts.CutLemmas.{free-append, free-cons, free_begins, free_of_all, not_free, scheme_text_free}
 use Rattle.git_syntax.proofs.Texts.EscapeLemmas.{decode_kept}
 
 -- ---- bytes that simple parts lack
@@ -149,6 +150,7 @@ path_stays p path of_git some away = home_kept path away
 path_stays p path of_ssh some away = home_kept path away
 path_stays p path of_http some away = kept_root path some
 path_stays p path of_https some away = kept_root path some
+path_stays p path (of_helper name spelled unknown) some away = refl
 
 -- a remote scheme takes a simple host as it is
 remote_host : (p : Scheme) (host : List ℕ) → IsRemoteScheme p → IsSimpleHost host → HostFor p (Some host) (Some host)
@@ -156,6 +158,7 @@ remote_host p host of_git simple = refl
 remote_host p host of_ssh simple = (host, simple_ssh_host host simple, refl)
 remote_host p host of_http simple = refl
 remote_host p host of_https simple = refl
+remote_host p host (of_helper name spelled unknown) simple = refl
 
 -- the fields of a URL with a remote scheme and a simple host
 abbrev remote_fields : Scheme → Option (List ℕ) → Option (List ℕ) → List ℕ → Option ℕ → List ℕ → UrlSyntax
@@ -200,6 +203,12 @@ remote_spelled b rest authority path p user password host port remote joined com
     by_scheme p of_ssh e holds = url (record { parts = remote_fields ssh user password host port path; spelled = syntax (codes "ssh") refl refl refl e holds; means = remote_means ssh user password host path port of_ssh simple (path_common (codes "ssh") e) some })
     by_scheme p of_http e holds = url (record { parts = remote_fields http user password host port path; spelled = syntax (codes "http") refl refl refl e holds; means = remote_means http user password host path port of_http simple (path_common (codes "http") e) some })
     by_scheme p of_https e holds = url (record { parts = remote_fields https user password host port path; spelled = syntax (codes "https") refl refl refl e holds; means = remote_means https user password host path port of_https simple (path_common (codes "https") e) some })
+    by_scheme p (of_helper name spelled unknown) e holds = url (record {
+      parts = remote_fields (helper_url name) user password host port path;
+      spelled = syntax name (scheme_text_free name colon spelled refl) (unknown_no_file name unknown) (sym spelled) e holds;
+      means = subst (λ named. DenotesAs named b (remote_fields (helper_url name) user password host port path) (remote_location (helper_url name) user password host port path))
+          (sym (unknown_helper name unknown)) (remote_means (helper_url name) user password host path port (of_helper name spelled unknown) simple (path_common name e) some);
+    })
 
 -- a text of simple parts after a remote scheme is a URL
 url_spelled : (b : List ℕ) (p : Scheme) (user : Option (List ℕ)) (host path : List ℕ) (port : Option ℕ) → IsRemoteScheme p → HasSimpleParts b user host path → IfSome port IsSimplePort

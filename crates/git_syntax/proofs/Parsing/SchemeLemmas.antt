@@ -6,7 +6,7 @@ use Rattle.std.proofs.lemmas.Slice.Eq.{bytes_eq-Decides}
 use Rattle.git_syntax.specs.Location.{Scheme, Location, path_alone}
 use Rattle.git_syntax.specs.Location.Scheme.{file, git, ssh, http, https, ext, helper, helper_url}
 use Rattle.git_syntax.specs.Bytes.{colon, FreeOf, is_scheme_text}
-use Rattle.git_syntax.specs.Schemes.{is_ssh_scheme, is_web_scheme, scheme_of, requires_path}
+use Rattle.git_syntax.specs.Schemes.{is_known_scheme, is_ssh_scheme, is_web_scheme, scheme_of, requires_path}
 use Rattle.git_syntax.specs.Grammar.{helper_scheme, UrlSyntax, DenotesByScheme, DenotesAs}
 
 -- a property of both choices holds of the chosen one
@@ -50,3 +50,15 @@ same_scheme s name e h = subst (λ t. is_scheme_text t ≡ true) (sym ((bytes_eq
 -- a name of HTTP is one
 pub web_scheme : (s : List ℕ) → is_web_scheme s ≡ true → is_scheme_text s ≡ true
 web_scheme s h = grind (arith, same_scheme, bytes_eq, or_cases)
+
+-- a name of no known scheme is that of a remote helper
+pub unknown_helper : (s : List ℕ) → is_known_scheme s ≡ false → scheme_of s ≡ helper_url s
+unknown_helper s h = grind arith
+
+-- it isn't `file`
+pub unknown_no_file : (s : List ℕ) → is_known_scheme s ≡ false → bytes_eq s (codes "file") ≡ false
+unknown_no_file s h = grind arith
+
+-- and a name of a remote helper is one of no known scheme
+pub helper_unknown : (s : List ℕ) → helper_url s ≡ scheme_of s → is_known_scheme s ≡ false
+helper_unknown s h = grind arith

@@ -1,13 +1,19 @@
 -- A URL with a simple host, or a file URL without a host.
-use Rattle.std.proofs.Common.{◌≡◌, arith, codes, sym, subst}
+use Rattle.std.proofs.Common.{◌≡◌, ◌++◌, true, arith, codes, sym, subst}
 use Rattle.std.proofs.lemmas.Grind.{common_steps}
 use Rattle.git_syntax.specs.SimpleTexts.{IsSimpleText}
 use Rattle.git_syntax.specs.Views.{borrowed_scheme}
-use Rattle.git_syntax.proofs.ByMasks.CommonLemmas.{rooted}
+use Rattle.git_syntax.specs.Internal.Masks.{is_common}
+use Rattle.git_syntax.proofs.ByMasks.CommonLemmas.{common_parts, common_utf8, rooted}
 use Rattle.git_syntax.proofs.ByMasks.SimpleLemmas.{simple_file, simple_url}
 use Rattle.git_syntax.proofs.Parsing.ClassifierLemmas.{nil_tested}
 use Rattle.git_syntax.proofs.Parsing.HostLemmas.{some_tested}
 use Rattle.git_syntax.proofs.simple.url_pieces.Goals as goal
+
+pub remote_scheme-requires : goal.remote_scheme-requires
+remote_scheme-requires c =
+    let scheme = c.args.scheme.now in
+    common_utf8 scheme (common_parts scheme (codes "://" ++ c.args.rest.text.now) (subst (λ b. is_common b ≡ true) c.requires.form.joined c.requires.common)).0
 
 pub returns-in-Some : goal.returns-in-Some
 returns-in-Some c =
