@@ -61,40 +61,28 @@ impl Masks {
     }
 }
 
-/// The masks of a text of 16 to 64 bytes, if each byte is common.
+/// The masks of a text of 16 to 64 bytes, if each byte is common. The last block is tested first, since most queries end
+/// in one.
 #[inline(always)]
 pub(crate) fn masks_of(text: &[u8]) -> Option<Masks>
     requires { (16 ≤ length text.now) × (length text.now ≤ 64) }
     ensures masks { IfSome result (λ masks. AreMasksOf text.now masks) }
     ensures common { IfSome result (λ masks. is_common text.now ≡ true) }
 {
-    if !is_common_block(text, 0) {
+    let last = text.len() - 16;
+    if !is_common_block(text, last) || !is_common_block(text, 0) {
         return None;
     }
     let mut masks = block_at(text, 0);
     let mut done = 16;
-    while done < text.len() {
-        let at = next_block(text, done);
-        if !is_common_block(text, at) {
+    while done < last {
+        if !is_common_block(text, done) {
             return None;
         }
-        masks = join(text, done, masks, at, block_at(text, at));
-        done = at + 16;
+        masks = join(text, done, masks, done, block_at(text, done));
+        done += 16;
     }
-    Some(masks)
-}
-
-/// The offset of the block after this many bytes, which is smaller for the last block.
-#[inline(always)]
-fn next_block(text: &[u8], done: usize) -> usize
-    requires { (done < length text.now) × (16 ≤ length text.now) }
-    ensures { (result ≤ done) × (done < result + 16) × (result + 16 ≤ length text.now) }
-{
-    if done + 16 <= text.len() {
-        done
-    } else {
-        text.len() - 16
-    }
+    Some(join(text, done, masks, last, block_at(text, last)))
 }
 
 /// The masks of the 16 bytes at an offset.

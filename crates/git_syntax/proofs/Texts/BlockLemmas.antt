@@ -29,11 +29,6 @@ earlier test done at text before front =
     let two : take done text ≡ take at text ++ take (done - at) (drop at text) = ap (λ n. take n text) to_done ∙ take-add at (done - at) text in
     (and_parts _ _ (sym (ap (list_all test) two ∙ list_all-append test (take at text) (take (done - at) (drop at text))) ∙ front)).0
 
--- the same of a block that may overlap the one before
-pub near_block : (test : ℕ → Bool) (done at : ℕ) (text : List ℕ) → at ≤ done → list_all test (take done text) ≡ true → list_all test (take 16 (drop at text)) ≡ true
-    → list_all test (take (at + 16) text) ≡ true
-near_block test done at text before front block = next_block test 16 at text (earlier test done at text before front) block
-
 -- a text has a byte that fails if a block of it has one
 pub failing_block : (test : ℕ → Bool) (n at : ℕ) (text : List ℕ) → list_all test (take n (drop at text)) ≡ false → list_all test text ≡ false
 failing_block test n at text block = elim (cases_Bool (list_all test text)) [
