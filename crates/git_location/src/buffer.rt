@@ -19,7 +19,7 @@ use git_syntax::host::{HostPiece, HostPort};
 
 /// The decoding of a text.
 #[inline(always)]
-pub(crate) fn decoded_in<'a>(text: &'a [u8], buffer: &'a mut [u8]) -> (&'a [u8], &'a mut [u8])
+fn decoded_in<'a>(text: &'a [u8], buffer: &'a mut [u8]) -> (&'a [u8], &'a mut [u8])
     requires { length (percent.percent_decode text.now) ≤ length buffer.old }
     ensures text { result.0.now ≡ percent.percent_decode text.now }
     ensures left { length buffer.old

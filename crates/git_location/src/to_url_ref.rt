@@ -15,8 +15,9 @@ ghost use Rattle.git_syntax.specs.Location.{path_alone};
 ghost use Rattle.git_syntax.specs.Location.Scheme.{file};
 ghost use Rattle.git_syntax.specs.Views.{borrowed_scheme};
 
-use crate::buffer::{decoded_in, host_in, optional_in, scp_host_in};
+use crate::buffer::{host_in, optional_in, scp_host_in};
 use crate::url_ref::UrlRef;
+use git_syntax::escape::decode_into;
 use git_syntax::found::{Found, ScpHost};
 use git_syntax::home::{from_home, or_root};
 use git_syntax::host::port_of;
@@ -139,8 +140,8 @@ fn path_in<'a>(url: ParsedUrl<'a>, buffer: &'a mut [u8]) -> &'a [u8]
     if !url.escaped {
         return url.path;
     }
-    let (path, _) = decoded_in(url.path, buffer);
-    path
+    let size = decode_into(buffer, url.path);
+    buffer.split_at(size).0
 }
 
 /// The spelling of the path of a URL, if it has an escape.
