@@ -3,7 +3,7 @@
 //! The last block ends with the text, and may overlap the block before.
 
 ghost use Rattle.std.specs.Prelude.{◌≡◌, ◌+◌, ◌≤◌, IsTrue, drop, length, take, true, ℕ};
-ghost use Rattle.git_syntax.specs.Escapes.{is_plain, is_plain_byte};
+ghost use Rattle.git_syntax.specs.Escapes.{is_plain, is_plain_byte, is_printable, is_printable_byte};
 ghost use Rattle.git_syntax.specs.Internal.Masks.{is_common, is_common_byte, mask_of};
 
 use crate::masks::bits::all;
@@ -88,4 +88,38 @@ fn plains(bytes: u8x16) -> u64
 {
     let printable = (bytes - u8x16::splat(b'!')).simd_le(u8x16::splat(SHOWN_SPAN));
     (printable & bytes.simd_ne(u8x16::splat(b'%'))).to_bitmask()
+}
+
+/// Whether each byte is printable ASCII.
+pub(crate) fn are_printable(text: &[u8]) -> bool
+    requires { 16 ≤ length text.now }
+    ensures { result ≡ is_printable text.now }
+{
+    let mut done = 0;
+    while done + 16 < text.len() {
+        if !is_printable_block(text, done) {
+            return false;
+        }
+        done += 16;
+    }
+    is_printable_block(text, text.len() - 16)
+}
+
+/// Whether the 16 bytes at an offset are printable ASCII.
+#[inline(always)]
+fn is_printable_block(text: &[u8], at: usize) -> bool
+    requires { at + 16 ≤ length text.now }
+    ensures { result ≡ is_printable (take 16 (drop at text.now)) }
+{
+    all(printables(u8x16::from_slice(&text[at..])), 16)
+}
+
+/// Which bytes are printable ASCII.
+#[inline(always)]
+fn printables(bytes: u8x16) -> u64
+    ensures { result ≡ mask_of is_printable_byte bytes }
+{
+    (bytes - u8x16::splat(b'!'))
+        .simd_le(u8x16::splat(SHOWN_SPAN))
+        .to_bitmask()
 }

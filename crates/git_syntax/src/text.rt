@@ -5,7 +5,7 @@
 ghost use Rattle.std.specs.Prelude.{◌≡◌, ◌↔◌, IsTrue, IsUtf8, string_bytes};
 ghost use Rattle.git_syntax.specs.Escapes as spec;
 
-use crate::blocks::are_plain;
+use crate::blocks::{are_plain, are_printable};
 
 /// Whether each byte is printable ASCII and none is `%`. Such a text is UTF-8, has no white space, and decodes
 /// to itself.
@@ -30,12 +30,11 @@ fn is_plain_byte(byte: u8) -> bool
 pub(crate) fn is_printable(text: &[u8]) -> bool
     ensures { result ≡ spec.is_printable text.now }
 {
-    // A loop without an early exit is compiled to test many bytes at once.
-    let mut printable = true;
-    for byte in text {
-        printable &= is_printable_byte(*byte);
+    if text.len() >= 16 {
+        are_printable(text)
+    } else {
+        text.iter().all(|byte| is_printable_byte(*byte))
     }
-    printable
 }
 
 /// Whether the byte is printable ASCII.

@@ -1,6 +1,7 @@
 -- Tests of all bytes of a text by those of its blocks.
-use Rattle.std.proofs.Common.{◌≡◌, ◌∙◌, ◌≤◌, ◌+◌, ◌-◌, ◌&&◌, ℕ, Bool, true, false, List, ◌++◌, length, take, drop, sym, ap, inl, inr, arith, take-add, drop-drop, length-drop}
+use Rattle.std.proofs.Common.{◌≡◌, ◌↔◌, ◌∙◌, ◌≤◌, ◌+◌, ◌-◌, ◌&&◌, ℕ, Bool, true, false, List, ◌++◌, length, take, drop, refl, sym, ap, inl, inr, arith, take-add, drop-drop, length-drop}
 use Rattle.std.specs.List.{list_all}
+use Rattle.std.specs.Prelude.{IsTrue}
 use Rattle.std.proofs.lemmas.Bool.{and_from, and_parts, cases_Bool, false≢true}
 use Rattle.std.proofs.lemmas.List.{take-append-drop, take_all}
 use Rattle.std.proofs.lemmas.List.Folds.{list_all-append}
@@ -58,3 +59,11 @@ four_blocks test at text =
     more_bytes test 48 at text
     ∙ ap (λ b. b && list_all test (take 16 (drop (at + 48) text))) (more_bytes test 32 at text
     ∙ ap (λ b. b && list_all test (take 16 (drop (at + 32) text))) (more_bytes test 16 at text))
+
+-- a test that says whether another is true gives its answer
+pub same_answer : (a b : Bool) → (IsTrue a ↔ (b ≡ true)) → a ≡ b
+same_answer true b iff = sym (iff.0 refl)
+same_answer false b iff = elim (cases_Bool b) [
+  | inl all ↦ absurd (false≢true (iff.1 all))
+  | inr fails ↦ sym fails
+]
