@@ -54,7 +54,7 @@ impl<'a> UrlRef<'a> {
 pub fn read_any_in<'a>(text: &'a [u8], buffer: &'a mut [u8]) -> Result<UrlRef<'a>, ParseError>
     ensures { ReadsIn text.now (length buffer.old) result }
 {
-    match find(text) {
+    match find::<0>(text) {
         Err(_) => Err(ParseError::Refused(refusal(text))),
         Ok(found) => {
             if buffer.len() < text.len() {

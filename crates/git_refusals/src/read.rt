@@ -24,7 +24,7 @@ pub fn read(bytes: &[u8]) -> Result<Found<'_>, Refusal>
     ensures empty { bytes.now ≡ [] → result ≡ Err empty_refusal }
     ensures within { IfErr result (λ refusal. refusal.at + refusal.len ≤ length bytes.now) }
 {
-    match find(bytes) {
+    match find::<2>(bytes) {
         Ok(found) => Ok(found),
         Err(_) => Err(refusal(bytes)),
     }

@@ -45,6 +45,7 @@ pub enum Form<'a> {
 }
 
 /// Returns the form of the text, with its pieces.
+#[inline(always)]
 pub fn classify(bytes: &[u8]) -> Form<'_>
     ensures { Classifies bytes.now result }
 {
@@ -55,6 +56,7 @@ pub fn classify(bytes: &[u8]) -> Form<'_>
 }
 
 /// The form of a text without a colon.
+#[inline(always)]
 fn classify_whole(bytes: &[u8]) -> Form<'_>
     requires { FreeOf colon bytes.now }
     ensures { Classifies bytes.now result }
@@ -67,6 +69,7 @@ fn classify_whole(bytes: &[u8]) -> Form<'_>
 }
 
 /// The form of a text, by the bytes before and after its first colon.
+#[inline(always)]
 fn classify_cut<'a>(bytes: &'a [u8], front: &'a [u8], rest: &'a [u8]) -> Form<'a>
     requires { ColonCut bytes.now front.now rest.now }
     ensures { Classifies bytes.now result }
@@ -99,6 +102,7 @@ fn helper_address<'a>(name: &[u8], rest: &'a [u8]) -> Option<&'a [u8]>
 }
 
 /// The form of a text that does not name a remote helper.
+#[inline(always)]
 fn classify_other<'a>(bytes: &'a [u8], front: &'a [u8], rest: &'a [u8]) -> Form<'a>
     requires cut { ColonCut bytes.now front.now rest.now }
     requires no_helper { ¬ HasHelperForm bytes.now }
@@ -139,6 +143,7 @@ pub(crate) fn after_slashes(text: &[u8]) -> Option<&[u8]>
 }
 
 /// The form of a text that is neither a remote helper nor a URL.
+#[inline(always)]
 fn classify_path<'a>(bytes: &'a [u8], front: &'a [u8], rest: &'a [u8]) -> Form<'a>
     requires cut { ColonCut bytes.now front.now rest.now }
     requires neither { IsNeither bytes.now }
@@ -155,6 +160,7 @@ fn classify_path<'a>(bytes: &'a [u8], front: &'a [u8], rest: &'a [u8]) -> Form<'
 }
 
 /// The form of such a text that is not of the form `user@[address]:path`.
+#[inline(always)]
 fn classify_plain<'a>(bytes: &'a [u8], front: &'a [u8], rest: &'a [u8]) -> Form<'a>
     requires cut { ColonCut bytes.now front.now rest.now }
     requires neither { IsNeither bytes.now }

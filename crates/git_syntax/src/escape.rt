@@ -16,7 +16,7 @@ use crate::digits::digit;
 use crate::runs::past_run;
 use crate::text::{into_text, is_plain, is_printable, is_utf8};
 use crate::white_space::has_white_space;
-use percent_encoding::{AsciiSet, CONTROLS, ascii_set, percent_decode};
+use percent_encoding::{AsciiSet, CONTROLS, ascii_set};
 use simdutf8::Checker;
 use std::alloc::{AllocError, Global};
 use std::simd::u8x64;
@@ -203,14 +203,16 @@ fn split_escape(suffix: &[u8]) -> (u8, &[u8])
 pub fn decodes_to(spelling: &[u8], path: &[u8]) -> bool
     ensures { IsTrue result ↔ (percent.percent_decode spelling.now ≡ path.now) }
 {
+    let mut left = spelling;
     let mut rest = path;
-    for byte in percent_decode(spelling) {
+    while let Some((byte, suffix)) = split_decoded(left) {
         let Some((first, tail)) = rest.split_first() else {
             return false;
         };
         if *first != byte {
             return false;
         }
+        left = suffix;
         rest = tail;
     }
     rest.is_empty()

@@ -15,7 +15,10 @@ use crate::scp::{find_addressed, find_scp};
 use crate::url::find_url;
 
 /// Returns the slices of the one location that the bytes spell, or a flaw of the bytes.
-pub fn find(bytes: &[u8]) -> Result<Found<'_>, Refusal>
+///
+/// Each caller has a number of its own for `READER`. So it has an instance of its own, which the compiler inlines.
+#[inline(always)]
+pub fn find<const READER: u8>(bytes: &[u8]) -> Result<Found<'_>, Refusal>
     ensures found { IfOk result (λ found. Spells bytes.now (denoted found)) }
     ensures ready { IfOk result (λ found. IsReady found) }
     ensures buffer { IfOk result (λ found. buffer_length_for found ≤ length bytes.now) }

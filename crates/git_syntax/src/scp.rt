@@ -22,6 +22,7 @@ use crate::refusal::{Refusal, UrlFault, UrlKind};
 use crate::text::{self, as_text, is_plain, is_text};
 
 /// Finds the slices of the scp form: a user if there is one, a host, a colon and a path.
+#[inline(always)]
 pub(crate) fn find_scp<'a>(
     input: &'a [u8],
     front: &'a [u8],
@@ -59,6 +60,7 @@ fn is_utf8(plain: bool, text: &[u8]) -> bool
 }
 
 /// Finds the slices of the scp form with an IPv6 text in brackets after the user.
+#[inline(always)]
 pub(crate) fn find_addressed<'a>(
     input: &'a [u8],
     user: &'a [u8],
@@ -95,6 +97,7 @@ fn cut_front_user(front: &[u8]) -> (Option<&[u8]>, &[u8])
 }
 
 /// Finds the host of the scp form. A host that is known to be plain isn't searched for white space.
+#[inline(always)]
 fn find_host(plain: bool, host: &[u8]) -> Result<ScpHost<'_>, UrlFault>
     requires plain { plain ≡ true → spec.is_plain host.now ≡ true }
     requires text { IsUtf8 host.now }
@@ -132,6 +135,7 @@ fn has_no_white_space(plain: bool, text: &[u8]) -> bool
 
 /// Finds a host that doesn't begin with a bracket. If it has a colon, a bracket follows that, so it has no
 /// port.
+#[inline(always)]
 fn find_name(host: &[u8]) -> Result<ScpHost<'_>, UrlFault>
     requires some { 0 < length host.now }
     requires open_front { begins_with left_bracket host.now ≡ false }
@@ -151,6 +155,7 @@ fn find_name(host: &[u8]) -> Result<ScpHost<'_>, UrlFault>
 
 /// Finds a host that begins with a bracket, from the text after it. The last byte is the bracket that closes
 /// it.
+#[inline(always)]
 fn find_in_brackets(suffix: &[u8]) -> Result<ScpHost<'_>, UrlFault>
     requires text { IsUtf8 (left_bracket ∷ suffix.now) }
     requires colons { ColonsInside (left_bracket ∷ suffix.now) }

@@ -24,6 +24,7 @@ use crate::text::{as_text, is_text, is_utf8};
 use crate::url_syntax::{ParsedUrl, read_url_syntax};
 
 /// Finds the slices of a URL.
+#[inline(always)]
 pub(crate) fn find_url<'a>(
     input: &'a [u8],
     scheme: &'a [u8],
@@ -58,6 +59,7 @@ fn is_ext(known: KnownScheme) -> bool
 }
 
 /// Finds the slices of a file URL. The host ends at the first `/`, at which the path begins.
+#[inline(always)]
 fn find_file<'a>(input: &'a [u8], rest: &'a [u8]) -> Result<Found<'a>, Refusal>
     requires { UrlForm input.now (codes "file") rest.now }
     ensures found { IfOk result (λ found. SpellsFile input.now (denoted found)) }
@@ -89,6 +91,7 @@ fn cut_at_path(rest: &[u8]) -> Option<(&[u8], &[u8])>
 }
 
 /// Finds the slices of a URL that isn't a file URL, by the rules of its scheme.
+#[inline(always)]
 fn find_other<'a>(
     input: &'a [u8],
     rules: Rules,
@@ -113,6 +116,7 @@ fn find_other<'a>(
 }
 
 /// Finds the slices of a URL, as `find_other` does, if nothing is known of its bytes.
+#[inline(always)]
 fn find_in_text<'a>(
     input: &'a [u8],
     rules: Rules,
@@ -135,6 +139,7 @@ fn find_in_text<'a>(
 }
 
 /// Finds the slices of a URL that is text and isn't a file URL, with the class `byte_class` of its bytes.
+#[inline(always)]
 fn find_parts<'a>(
     text: &'a str,
     byte_class: ByteClass,

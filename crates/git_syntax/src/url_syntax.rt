@@ -58,6 +58,7 @@ struct CredentialSlices<'a> {
 
 /// Reads the URL with this scheme, the rules of the scheme, and this text after `://`. It is not a file URL and
 /// not a remote helper. Known facts about the text aren't tested again.
+#[inline(always)]
 pub(crate) fn read_url_syntax<'a>(
     text: &'a str,
     byte_class: ByteClass,
@@ -93,6 +94,7 @@ pub(crate) fn read_url_syntax<'a>(
 }
 
 /// Whether the text, whose rules these are, is a scheme. Each name of HTTP is.
+#[inline(always)]
 fn is_scheme(rules: Rules, scheme: &[u8]) -> bool
     requires { AreRulesOf scheme.now rules }
     ensures { result ≡ bytes.is_scheme_text scheme.now }
@@ -101,6 +103,7 @@ fn is_scheme(rules: Rules, scheme: &[u8]) -> bool
 }
 
 /// The fields of a URL, from those of its authority.
+#[inline(always)]
 fn join_parts<'a>(
     scheme: &'a [u8],
     parts: AuthoritySlices<'a>,
@@ -125,6 +128,7 @@ fn join_parts<'a>(
 }
 
 /// Whether the text has no white space. A printable text never has.
+#[inline(always)]
 fn has_no_white_space(byte_class: ByteClass, text: &str) -> bool
     requires { HasByteClass byte_class text.now }
     ensures { IsTrue result ↔ LacksWhiteSpace text.now }
@@ -133,6 +137,7 @@ fn has_no_white_space(byte_class: ByteClass, text: &str) -> bool
 }
 
 /// Whether two hexadecimal digits follow every `%` of the text.
+#[inline(always)]
 fn has_sound_escapes(byte_class: ByteClass, text: &str) -> bool
     requires { HasByteClass byte_class text.now }
     ensures { result ≡ escape.is_sound text.now }
@@ -141,6 +146,7 @@ fn has_sound_escapes(byte_class: ByteClass, text: &str) -> bool
 }
 
 /// Whether the text decodes to UTF-8. A text that decodes to ASCII always does.
+#[inline(always)]
 fn means_text(byte_class: ByteClass, piece: &[u8]) -> bool
     requires { HasByteClass byte_class piece.now }
     ensures { IsTrue result ↔ IsUtf8 (percent_decode piece.now) }
@@ -155,6 +161,7 @@ fn means_text(byte_class: ByteClass, piece: &[u8]) -> bool
 }
 
 /// Whether the text has a `%`. A plain text never has.
+#[inline(always)]
 fn holds_escape(byte_class: ByteClass, piece: &[u8]) -> bool
     requires { HasByteClass byte_class piece.now }
     ensures { result ≡ escape.has_percent piece.now }
@@ -166,6 +173,7 @@ fn holds_escape(byte_class: ByteClass, piece: &[u8]) -> bool
 }
 
 /// Reads an authority, which may need a host. Most are a simple host.
+#[inline(always)]
 fn read_authority(
     syntax: HostSyntax,
     needed: bool,
@@ -194,6 +202,7 @@ fn read_authority(
 }
 
 /// Reads an authority that may have user information, brackets and a port.
+#[inline(always)]
 fn read_marked(
     syntax: HostSyntax,
     needed: bool,
@@ -216,6 +225,7 @@ fn read_marked(
 }
 
 /// Reads an authority without user information.
+#[inline(always)]
 fn read_host_alone(
     syntax: HostSyntax,
     needed: bool,
@@ -241,6 +251,7 @@ fn read_host_alone(
 }
 
 /// Reads user information: a user, or a user and a password, which decode to text.
+#[inline(always)]
 fn read_credentials(information: &[u8]) -> Result<CredentialSlices<'_>, UrlFault>
     ensures { ReadsCredentials information.now result }
 {
@@ -261,6 +272,7 @@ fn read_credentials(information: &[u8]) -> Result<CredentialSlices<'_>, UrlFault
 }
 
 /// Reads user information without a password.
+#[inline(always)]
 fn read_user(information: &[u8]) -> Result<CredentialSlices<'_>, UrlFault>
     requires { FreeOf colon information.now }
     ensures { ReadsCredentials information.now result }
@@ -275,6 +287,7 @@ fn read_user(information: &[u8]) -> Result<CredentialSlices<'_>, UrlFault>
 }
 
 /// The text, unless it is empty.
+#[inline(always)]
 fn unless_empty(text: &[u8]) -> Option<&[u8]>
     ensures { decoded_option result ≡ authority.unless_empty (percent_decode text.now) }
 {
@@ -282,6 +295,7 @@ fn unless_empty(text: &[u8]) -> Option<&[u8]>
 }
 
 /// The user of a password, or without one: an empty user counts only beside a password.
+#[inline(always)]
 fn user_beside<'a>(password: Option<&'a [u8]>, user: &'a [u8]) -> Option<&'a [u8]>
     ensures { decoded_option result
         ≡ authority.user_beside (decoded_option password.entry) (percent_decode user.now) }

@@ -113,7 +113,7 @@ fn read_any(alloc: Global, bytes: &[u8]) -> Result<Url, Error>
     ensures flaw { IfErr result (λ e. Flaw bytes.now e) }
     ensures empty { bytes.now ≡ [] → result ≡ Err Error.EmptyLocal }
 {
-    match find(bytes) {
+    match find::<1>(bytes) {
         Ok(found) => Ok(build(alloc, found)?),
         Err(_) => Err(error_of(alloc, bytes, read::refusal(bytes))),
     }

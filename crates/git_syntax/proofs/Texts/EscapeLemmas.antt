@@ -4,7 +4,7 @@ use Rattle.std.specs.Char.{is_digit, digit_value, is_whitespace, encode_utf8}
 use Rattle.std.specs.Str.{IsUtf8, encode_utf8_all}
 use Rattle.std.proofs.lemmas.Bool.{cases_Bool, and_parts, and_from, or_parts, or_from, false_from_ne_true, or_cases, or_left, or_right, not-true, both_ways, eqb-true, eqb-false, ltb-true, false≢true}
 use Rattle.std.proofs.lemmas.Bool.Decides.{nat_tests}
-use Rattle.std.proofs.lemmas.List.{append_cancel_left, length-append, nil_from_length, take_at, drop_at, get_or_at}
+use Rattle.std.proofs.lemmas.List.{length-append, nil_from_length, take_at, drop_at, get_or_at}
 use Rattle.std.proofs.lemmas.Str.{IsUtf8-append, IsUtf8-take, IsUtf8-drop, IsUtf8-from_ascii, IsCharBoundary-from_take, IsCharBoundary-before_ascii, chars-append, chars-IsAscii}
 use lib.Utf8.{scalar, scalars}
 use Rattle.bstr.specs.Utf8.{decoded}
@@ -21,13 +21,9 @@ use Rattle.percent_encoding.specs.Percent.{percent_decode, percent_encode, perce
 use Rattle.percent_encoding.proofs.PercentLemmas.{IsEscapeByte, All-percent_encode, All-percent_encode_byte, percent_encode_nonempty, IsAscii-percent_encode, percent_encode-nil, percent_encode_escaped, percent_encode_kept, round_trip, percent_decode-nil, percent_decode_not_percent, percent_decode_escape, length-percent_decode, IsByte}
 use Rattle.git_syntax.specs.Bytes.{newline, percent_sign, Lacks, FreeOf, LacksWhiteSpace}
 use Rattle.git_syntax.specs.Escapes.{is_sound, begins_with_digits, escaped_percents}
-use Rattle.git_syntax.proofs.Texts.CutLemmas.{free_or_cut, heads}
+use Rattle.git_syntax.proofs.Texts.CutLemmas.{free_or_cut}
 
 -- ---- walks over a decoding
-
--- lists that differ at one place after an equal front are different
-pub differ_after : (front xs ys : List ℕ) (x y : ℕ) → (y ≡ x → ⊥) → front ++ x ∷ xs ≡ front ++ y ∷ ys → ⊥
-differ_after front xs ys x y other e = other (sym (heads (append_cancel_left front (x ∷ xs) (y ∷ ys) e)))
 
 -- four bytes are enough to read the first character
 pub decoded_window : (bs : List ℕ) → decoded (take 4 bs) ≡ decoded bs

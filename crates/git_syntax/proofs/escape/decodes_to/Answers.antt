@@ -1,10 +1,10 @@
--- The decoding and the path agree up to a byte, and differ there.
-use Rattle.std.proofs.Common.{◌++◌, ◌∙◌, ap, sym}
-use Rattle.git_syntax.proofs.Texts.EscapeLemmas.{differ_after}
+-- Nothing decodes to nothing.
+use Rattle.std.proofs.Common.{◌∙◌, ap, sym, length, ◌==◌}
+use Rattle.git_syntax.proofs.Texts.DecodingLemmas.{nothing_decoded}
+use Rattle.git_syntax.proofs.Parsing.ClassifierLemmas.{nil_tested}
 use Rattle.git_syntax.proofs.escape.decodes_to.Goals as goal
 
-pub returns-then-first-byte : goal.returns-then-first-byte
-returns-then-first-byte c =
-    let spelled = c.loop-byte.invariant.spelled ∙ ap (λ rest. c.loop-byte.yielded ++ rest) c.in-Some.ensures.steps in
-    let left = c.loop-byte.invariant.left ∙ ap (λ rest. c.loop-byte.yielded ++ rest) c.in-Some-split_first.ensures.cases.0 in
-    (λ wrong. absurd (cc), λ equal. absurd (differ_after _ _ _ _ _ c.if-first-byte.true (sym spelled ∙ equal ∙ left)))
+pub returns : goal.returns
+returns c =
+    let none = nothing_decoded c.loop-byte.left.now c.in_default.ensures in
+    (λ empty. c.loop-byte.invariant.agree (none ∙ sym (nil_tested c.loop-byte.rest.now (sym empty ∙ c.is_empty.ensures))), λ equal. c.is_empty.ensures ∙ ap (λ t. length t == 0) (sym (c.loop-byte.invariant.agreed equal) ∙ none))
