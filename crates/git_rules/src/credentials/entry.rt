@@ -69,7 +69,7 @@ fn is_elsewhere(url: &[u8], host: &[u8], place: Option<&NormalUrl<'_>>) -> bool
     }
     match place {
         None => true,
-        Some(place) => names_other_host(url, place.host) || place.host == host,
+        Some(place) => place.host == host || names_other_host(url, place.host),
     }
 }
 
