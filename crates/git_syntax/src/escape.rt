@@ -8,8 +8,8 @@ ghost use Rattle.std.specs.Char.{is_digit};
 ghost use Rattle.percent_encoding.specs.Percent as percent;
 ghost use Rattle.git_syntax.specs.Escapes as spec;
 ghost use Rattle.git_syntax.specs.Safeguards.{PasswordSet, PathSet, UserSet};
-ghost use Rattle.git_syntax.specs.Bytes.{LacksWhiteSpace, percent_sign};
-ghost use Rattle.git_syntax.specs.Internal.Decoding.{PadsBlock, SplitsDecoded};
+ghost use Rattle.git_syntax.specs.Bytes.{LacksWhiteSpace};
+ghost use Rattle.git_syntax.specs.Internal.Decoding.{PadsBlock, SplitsDecoded, SplitsEscape};
 
 use crate::bytes::cut;
 use crate::digits::digit;
@@ -174,29 +174,31 @@ pub fn front(text: &[u8]) -> ([u8; 4], usize)
 pub fn split_decoded(text: &[u8]) -> Option<(u8, &[u8])>
     ensures { SplitsDecoded text.now result }
 {
-    let (first, suffix) = text.split_first()?;
-    if *first == b'%' {
-        return Some(split_escape(suffix));
+    if let Some(escape) = split_escape(text) {
+        return Some(escape);
     }
+    let (first, suffix) = text.split_first()?;
     Some((*first, suffix))
 }
 
-/// The first byte of the decoding of `%` and this text, and the rest of the text after it.
+/// The byte of the escape that the text begins with, and the text after the escape; `None` if it begins with none.
 #[inline(always)]
-fn split_escape(suffix: &[u8]) -> (u8, &[u8])
-    ensures { percent.percent_decode (percent_sign ∷ suffix.now)
-        ≡ result.0 ∷ percent.percent_decode result.1.now }
+fn split_escape(text: &[u8]) -> Option<(u8, &[u8])>
+    ensures { SplitsEscape text.now result }
 {
-    let [high, low, rest @ ..] = suffix else {
-        return (b'%', suffix);
+    let [sign, high, low, rest @ ..] = text else {
+        return None;
     };
+    if *sign != b'%' {
+        return None;
+    }
     let Some(high) = digit(*high) else {
-        return (b'%', suffix);
+        return None;
     };
     let Some(low) = digit(*low) else {
-        return (b'%', suffix);
+        return None;
     };
-    (high * 16 + low, rest)
+    Some((high * 16 + low, rest))
 }
 
 /// Whether the spelling decodes to the path.

@@ -74,7 +74,7 @@ neither_of_two : (bs : List ℕ) → Lacks is_ascii_whitespace bs → Lacks (is_
 neither_of_two bs lacks = lacks_weaker (is_byte2 13 12) is_ascii_whitespace (λ b two. grind (arith, nat_tests)) bs lacks
 
 -- a search finds a place exactly if some byte passes its test
-search_decides : (test : ℕ → Bool) (bs : List ℕ) (found : Option ℕ) → IsFirstByte test bs found → is_some found ≡ list_any test bs
+pub search_decides : (test : ℕ → Bool) (bs : List ℕ) (found : Option ℕ) → IsFirstByte test bs found → is_some found ≡ list_any test bs
 search_decides test bs None first = sym (lacks_after test bs 0 (λ k l m. first k l m))
 search_decides test bs (Some at) first = sym (list_any_at test bs at 0 first.0.high first.1)
 

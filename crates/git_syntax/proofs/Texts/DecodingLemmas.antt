@@ -1,6 +1,6 @@
 -- Decoding one byte or one block of bytes at a time.
-use Rattle.std.proofs.Common.{◌≡◌, ◌∙◌, ◌+◌, ◌-◌, ◌*◌, ◌<◌, ◌≤◌, ◌↔◌, ◌∷◌, ◌++◌, ℕ, true, false, List, [], length, take, drop, replicate, get_or, slice_set, IsUtf8, append_assoc, refl, sym, ap, subst, arith, take-append-drop}
-use Rattle.std.proofs.lemmas.Bool.Decides.{nat_tests}
+use Rattle.std.proofs.Common.{◌≡◌, ◌∙◌, ◌+◌, ◌-◌, ◌*◌, ◌<◌, ◌≤◌, ◌↔◌, ◌&&◌, ◌∷◌, ◌++◌, ℕ, true, false, List, [], length, take, drop, replicate, get_or, slice_set, IsUtf8, append_assoc, refl, sym, ap, subst, arith, take-append-drop}
+use Rattle.std.proofs.lemmas.Bool.{eq-eqb}
 use Rattle.std.specs.Char.{digit_value}
 use Rattle.std.proofs.lemmas.Grind.{take-set_at}
 use Rattle.std.proofs.lemmas.List.{append-nil, drop-drop, drop-replicate, drop-set-lt, length-append, length-take, nil_from_length, take_all, take_rest}
@@ -9,36 +9,49 @@ use Rattle.percent_encoding.proofs.PercentLemmas.{length-percent_decode, percent
 use Rattle.simdutf8.proofs.StepsLemmas.{IsUtf8-append_ascii, IsAscii-replicate}
 use Rattle.git_syntax.specs.Bytes.{is_hexadecimal, percent_sign}
 use Rattle.git_syntax.specs.Internal.Decoding.{PadsBlock}
+use Rattle.git_syntax.specs.Escapes.{begins_with_digits}
+use Rattle.git_syntax.proofs.Texts.CutLemmas.{tails}
 use Rattle.git_syntax.proofs.Texts.EscapeLemmas.{decode_broken, decode_escape}
-
--- ---- the byte that `%` and the text after begin with
-
--- a `%` with less than two bytes after it stays
-pub percent_short : (suffix : List ℕ) → length suffix < 2 → percent_decode (percent_sign ∷ suffix) ≡ percent_sign ∷ percent_decode suffix
-percent_short suffix short = grind (arith, nat_tests, decode_broken)
-
--- so does one with no digit after it
-pub percent_before_none : (suffix : List ℕ) → 2 ≤ length suffix → is_hexadecimal (get_or suffix 0 0) ≡ false → percent_decode (percent_sign ∷ suffix) ≡ percent_sign ∷ percent_decode suffix
-percent_before_none suffix long none = grind (arith, nat_tests, decode_broken)
-
--- or with one digit
-pub percent_before_one : (suffix : List ℕ) → 2 ≤ length suffix → is_hexadecimal (get_or suffix 0 0) ≡ true → is_hexadecimal (get_or suffix 1 0) ≡ false → percent_decode (percent_sign ∷ suffix) ≡ percent_sign ∷ percent_decode suffix
-percent_before_one suffix long one none = grind (arith, nat_tests, decode_broken)
-
--- one with two digits decodes to their byte
-pub percent_before_two : (suffix : List ℕ) (high low : ℕ) → 2 ≤ length suffix → is_hexadecimal (get_or suffix 0 0) ≡ true → high ≡ digit_value (get_or suffix 0 0) → is_hexadecimal (get_or suffix 1 0) ≡ true → low ≡ digit_value (get_or suffix 1 0)
-    → percent_decode (percent_sign ∷ suffix) ≡ (high * 16 + low) ∷ percent_decode (take (length suffix - 2) (drop 2 suffix))
-percent_before_two [] high low long one is two same = absurd (omega (arith, long))
-percent_before_two (b ∷ []) high low long one is two same = absurd (omega (arith, long))
-percent_before_two (b ∷ c ∷ rest) high low long one is two same =
-    let value : 16 * digit_value b + digit_value c ≡ high * 16 + low = omega (arith, is, same) in
-    decode_escape percent_sign b c rest refl one two ∙ ap (λ byte. byte ∷ percent_decode rest) value ∙ ap (λ left. (high * 16 + low) ∷ percent_decode left) (sym (take_rest (b ∷ c ∷ rest) 2))
 
 -- ---- one byte
 
 -- a text that doesn't begin with `%` keeps its first byte
-pub first_kept : (text suffix : List ℕ) (b : ℕ) → text ≡ b ∷ suffix → ¬ (b ≡ percent_sign) → percent_decode text ≡ b ∷ percent_decode suffix
-first_kept text suffix b e other = ap percent_decode e ∙ percent_decode_not_percent b suffix other
+pub other_kept : (text : List ℕ) → ¬ (get_or text 0 0 ≡ percent_sign) → (b : ℕ) (suffix : List ℕ) → text ≡ b ∷ suffix → percent_decode text ≡ b ∷ percent_decode suffix
+other_kept text other b suffix e = ap percent_decode e ∙ percent_decode_not_percent b suffix (λ same. other (ap (λ t. get_or t 0 0) e ∙ same))
+
+-- so does one with less than three bytes
+short_digits : (bs : List ℕ) → length bs < 2 → begins_with_digits bs ≡ false
+short_digits [] short = refl
+short_digits (b ∷ []) short = refl
+short_digits (b ∷ c ∷ bs) short = absurd (omega (arith, short))
+
+pub short_kept : (text : List ℕ) → length text < 3 → (b : ℕ) (suffix : List ℕ) → text ≡ b ∷ suffix → percent_decode text ≡ b ∷ percent_decode suffix
+short_kept text short b suffix e = ap percent_decode e ∙ decode_broken b suffix (short_digits suffix (omega (arith, short, ap length e)))
+
+-- one with no digit after its first byte, or with one
+pub kept_before_none : (text : List ℕ) → 3 ≤ length text → is_hexadecimal (get_or text 1 0) ≡ false → (b : ℕ) (suffix : List ℕ) → text ≡ b ∷ suffix → percent_decode text ≡ b ∷ percent_decode suffix
+kept_before_none [] long none b suffix e = absurd (omega (arith, long))
+kept_before_none (p ∷ []) long none b suffix e = absurd (omega (arith, long))
+kept_before_none (p ∷ x ∷ []) long none b suffix e = absurd (omega (arith, long))
+kept_before_none (p ∷ x ∷ y ∷ rest) long none b suffix e =
+    ap percent_decode e ∙ decode_broken b suffix (ap begins_with_digits (sym (tails e)) ∙ ap (λ d. d && is_hexadecimal y) none)
+
+pub kept_before_one : (text : List ℕ) → 3 ≤ length text → is_hexadecimal (get_or text 1 0) ≡ true → is_hexadecimal (get_or text 2 0) ≡ false → (b : ℕ) (suffix : List ℕ) → text ≡ b ∷ suffix → percent_decode text ≡ b ∷ percent_decode suffix
+kept_before_one [] long one none b suffix e = absurd (omega (arith, long))
+kept_before_one (p ∷ []) long one none b suffix e = absurd (omega (arith, long))
+kept_before_one (p ∷ x ∷ []) long one none b suffix e = absurd (omega (arith, long))
+kept_before_one (p ∷ x ∷ y ∷ rest) long one none b suffix e =
+    ap percent_decode e ∙ decode_broken b suffix (ap begins_with_digits (sym (tails e)) ∙ ap (λ d. d && is_hexadecimal y) one ∙ none)
+
+-- `%` and two digits decode to their byte
+pub escape_decoded : (text : List ℕ) (high low : ℕ) → 3 ≤ length text → get_or text 0 0 ≡ percent_sign → is_hexadecimal (get_or text 1 0) ≡ true → high ≡ digit_value (get_or text 1 0) → is_hexadecimal (get_or text 2 0) ≡ true → low ≡ digit_value (get_or text 2 0)
+    → percent_decode text ≡ (high * 16 + low) ∷ percent_decode (take (length text - 3) (drop 3 text))
+escape_decoded [] high low long sign one is two same = absurd (omega (arith, long))
+escape_decoded (p ∷ []) high low long sign one is two same = absurd (omega (arith, long))
+escape_decoded (p ∷ b ∷ []) high low long sign one is two same = absurd (omega (arith, long))
+escape_decoded (p ∷ b ∷ c ∷ rest) high low long sign one is two same =
+    let value : 16 * digit_value b + digit_value c ≡ high * 16 + low = omega (arith, is, same) in
+    decode_escape p b c rest (eq-eqb p percent_sign sign) one two ∙ ap (λ byte. byte ∷ percent_decode rest) value ∙ ap (λ left. (high * 16 + low) ∷ percent_decode left) (sym (take_rest (p ∷ b ∷ c ∷ rest) 3))
 
 -- nothing decodes to nothing
 pub nothing_decoded : (text : List ℕ) → text ≡ [] → percent_decode text ≡ []

@@ -15,6 +15,12 @@ abbrev pub SplitsDecoded : List ℕ → Option (ℕ × Bor (List ℕ)) → Type 
 SplitsDecoded text result = MatchOption result (text ≡ [])
     (λ parts. percent_decode text ≡ parts.0 ∷ percent_decode parts.1.now)
 
+-- the byte of the escape that a text begins with, and the text after it; `None` if its first byte decodes to itself
+abbrev pub SplitsEscape : List ℕ → Option (ℕ × Bor (List ℕ)) → Type 0
+SplitsEscape text result = MatchOption result
+    ((b : ℕ) (suffix : List ℕ) → text ≡ b ∷ suffix → percent_decode text ≡ b ∷ percent_decode suffix)
+    (λ parts. percent_decode text ≡ parts.0 ∷ percent_decode parts.1.now)
+
 -- the block is the front of the decoding, or all of it and zeros. The other text decodes to the rest
 abbrev pub PadsBlock : List ℕ → List ℕ → List ℕ → Type 0
 PadsBlock text block suffix = (zeros : ℕ)

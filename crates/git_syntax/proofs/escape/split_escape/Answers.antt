@@ -1,16 +1,19 @@
--- Two digits, or the `%` stays.
-use Rattle.git_syntax.proofs.Texts.DecodingLemmas.{percent_before_none, percent_before_one, percent_before_two, percent_short}
+-- `%` and two digits, or the first byte stays.
+use Rattle.git_syntax.proofs.Texts.DecodingLemmas.{escape_decoded, kept_before_none, kept_before_one, other_kept, short_kept}
 use Rattle.git_syntax.proofs.escape.split_escape.Goals as goal
 
 pub returns-in_default : goal.returns-in_default
-returns-in_default c = percent_short c.args.suffix.now c.in_default.len_below
+returns-in_default c = short_kept c.args.text.now c.in_default.len_below
+
+pub returns-then-sign-ne37 : goal.returns-then-sign-ne37
+returns-then-sign-ne37 c = other_kept c.args.text.now c.if-sign-ne37.true
 
 pub returns-in_default-digit : goal.returns-in_default-digit
-returns-in_default-digit c = percent_before_none c.args.suffix.now c.in-len2-up.len_at_least c.in_default-digit.ensures
+returns-in_default-digit c = kept_before_none c.args.text.now c.in-len3-up.len_at_least c.in_default-digit.ensures
 
 pub returns-in_default-digit-2 : goal.returns-in_default-digit-2
-returns-in_default-digit-2 c = percent_before_one c.args.suffix.now c.in-len2-up.len_at_least c.in-Some.ensures.0 c.in_default-digit-2.ensures
+returns-in_default-digit-2 c = kept_before_one c.args.text.now c.in-len3-up.len_at_least c.in-Some.ensures.0 c.in_default-digit-2.ensures
 
 pub returns : goal.returns
 returns c =
-    percent_before_two c.args.suffix.now c.in-Some.high c.in-Some-digit.low c.in-len2-up.len_at_least c.in-Some.ensures.0 c.in-Some.ensures.1 c.in-Some-digit.ensures.0 c.in-Some-digit.ensures.1
+    escape_decoded c.args.text.now c.in-Some.high c.in-Some-digit.low c.in-len3-up.len_at_least c.if-sign-ne37.false c.in-Some.ensures.0 c.in-Some.ensures.1 c.in-Some-digit.ensures.0 c.in-Some-digit.ensures.1
