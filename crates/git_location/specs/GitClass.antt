@@ -12,7 +12,7 @@ use Rattle.git_location.specs.WebClass.{AgreesOverWeb}
 
 -- a byte at which Git cuts a text differently: byte 0, `[` or `]`
 abbrev pub is_contested : ℕ → Bool
-is_contested b = b == 0 || (b == left_bracket || b == right_bracket)
+is_contested b = b == 0 || b == left_bracket || b == right_bracket
 
 -- a user or a host without a byte 0, `[` or `]`. Git decodes a URL before it cuts it, so in a URL no byte of it is
 -- written as an escape

@@ -17,6 +17,7 @@ use crate::url_ref::UrlRef;
 use git_syntax::bytes::{is_free_of, starts_with_byte};
 use git_syntax::escape::{PASSWORD, USER};
 use git_syntax::scheme::SchemeRef;
+use memchr::memchr3;
 use percent_encoding::AsciiSet;
 use web::agrees_over_web;
 
@@ -178,18 +179,11 @@ fn is_bracketed_of_git(url: &UrlRef<'_>, host: &str) -> bool
     matches!(url.scheme, SchemeRef::Git) && starts_with_byte(host.as_bytes(), b'[')
 }
 
-/// Whether the byte is one at which Git cuts a text differently.
-fn is_contested(byte: u8) -> bool
-    ensures { result ≡ is_contested byte }
-{
-    byte == 0 || byte == b'[' || byte == b']'
-}
-
-/// Whether the text has such a byte.
+/// Whether the text has a byte at which Git cuts it differently.
 fn holds_contested(text: &[u8]) -> bool
     ensures { result ≡ list_any is_contested text.now }
 {
-    text.iter().any(|byte| is_contested(*byte))
+    memchr3(0, b'[', b']', text).is_some()
 }
 
 /// Whether a byte of the text is written as an escape.

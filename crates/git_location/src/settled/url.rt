@@ -146,7 +146,7 @@ fn is_settled_raw(url: &UrlRef<'_>, laid: Option<&Pieces<'_>>) -> bool
 fn has_raw_path(url: &UrlRef<'_>) -> bool
     ensures { IsTrue result ↔ HasRawPath url.now }
 {
-    is_plain_path(url) || (has_url_path(url) && is_raw_path(url))
+    is_plain_path(url) || (is_text(url.path) && is_fair_or_raw(url))
 }
 
 /// Whether the path is plain and has no spelling. Most paths are and have none; one pass decides for them.
@@ -159,12 +159,15 @@ fn is_plain_path(url: &UrlRef<'_>) -> bool
     }
 }
 
-/// Whether the path is written raw if no spelling matches it.
-fn is_raw_path(url: &UrlRef<'_>) -> bool
+/// Whether the spelling of the path, which is text, is fair if it decodes to the path, and the path is raw if it doesn't.
+fn is_fair_or_raw(url: &UrlRef<'_>) -> bool
     requires { IsUtf8 url.now.path }
-    ensures { IsTrue result ↔ IsRawPath url.now }
+    ensures { IsTrue result ↔ (HasFairSpelling url.now × IsRawPath url.now) }
 {
-    has_match(url) || is_raw(url.path)
+    match url.spelling {
+        Some(spelling) if decodes_to(spelling, url.path) => is_fair_spelling(spelling, url.path),
+        _ => is_raw(url.path),
+    }
 }
 
 /// Whether the text has neither `%` nor white space.
