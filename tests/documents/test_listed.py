@@ -2,7 +2,7 @@
 
 A line of a list is a place, a tab, and the reason; a place in which nothing is found is refused too. The lists:
 
-  searches   sources outside of `git_syntax` and `git_refusals` that search a text for `://`, `@`, `:` or `[`
+  searches   sources outside of `git_syntax`, `git_refusals` and `git_parts` that search a text for `://`, `@`, `:` or `[`
   entries    sources of `explain` that use the key or the value of an entry of a configuration: `git_rules` decides the effect
   shown      functions of `explain` by which bytes become text, and structures with bytes that are written as JSON, each with the way:
              `explain_report::text` makes text for eyes. A function that changes nothing and returns whether something holds shows no byte
@@ -70,7 +70,7 @@ def functions(code):
 
 
 def searches():
-    return {path for path, code in sources("*") if SEARCH.search(code) and not path.startswith(("crates/git_syntax/", "crates/git_refusals/"))}
+    return {path for path, code in sources("*") if SEARCH.search(code) and not path.startswith(("crates/git_syntax/", "crates/git_refusals/", "crates/git_parts/"))}
 
 
 def entries():

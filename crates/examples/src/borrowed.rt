@@ -4,7 +4,7 @@ use bstr::{BStr, BString};
 use gix_url::unambiguous::{Condition, is_unambiguous, unmet_condition};
 use gix_url::{
     ArgumentSafety, Error, PathComponents, Scheme, SchemeRef, Url, UrlRef, WebCondition,
-    WriteError, WriteFault,
+    WriteError, WriteFault, agrees_with_git, unmet_web_condition,
 };
 use std::alloc::{AllocError, Global};
 
@@ -115,7 +115,7 @@ fn write_settled(out: &mut Vec<u8>, url: &UrlRef<'_>) -> Result<bool, WriteError
 
 /// Writes the text for Git, if Git reads the same place in it.
 fn write_for_git(out: &mut Vec<u8>, url: &UrlRef<'_>) -> Result<bool, WriteError> {
-    if !url.agrees_with_git() {
+    if !agrees_with_git(url) {
         return Ok(false); // `ssh://u:p@h/p`, in which Git reads the user `u:p`
     }
     url.write_to(out)?;
@@ -124,7 +124,7 @@ fn write_for_git(out: &mut Vec<u8>, url: &UrlRef<'_>) -> Result<bool, WriteError
 
 /// Whether a part of the path is written as a segment that readers remove.
 fn has_dots(url: &UrlRef<'_>) -> bool {
-    url.unmet_web_condition() == Some(WebCondition::NoDotSegment) // of `http://h/a/../b`
+    unmet_web_condition(url) == Some(WebCondition::NoDotSegment) // of `http://h/a/../b`
 }
 
 /// Whether a checker may pass on a remote: what connects to it finds the host that was checked.

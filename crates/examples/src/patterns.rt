@@ -8,7 +8,7 @@ use git_rules::pattern::settings::{
     Kind, SettingsError, kind_of, settings_for, settings_without_place,
 };
 use git_rules::pattern::{Rank, UrlPattern, best};
-use gix_url::UrlRef;
+use gix_url::{UrlRef, agrees_with_git};
 use std::alloc::Global;
 
 /// Whether a pattern stands for a place, each in a buffer of its own.
@@ -35,7 +35,7 @@ fn picked<'a>(
 
 /// Whether the secret that is kept for a URL may be sent with a location's request, which is made to that URL's host.
 fn may_be_sent(url: &UrlRef<'_>, kept_for: &UrlPattern<'_>, place: &NormalUrl<'_>) -> bool {
-    url.agrees_with_git() && kept_for.matches(place)
+    agrees_with_git(url) && kept_for.matches(place)
 }
 
 /// The helper that an entry of a configuration names for a place.

@@ -6,7 +6,7 @@
 
 ghost use Rattle.std.specs.Prelude.{◌≡◌, IfOk, IfSome, IsSome, None, Some, false, true};
 ghost use Rattle.git_audit.specs.Dangers.{is_of_http};
-ghost use Rattle.git_location.specs.WebConditions.{IsFirstUnmet};
+ghost use Rattle.git_class.specs.WebConditions.{IsFirstUnmet};
 ghost use Rattle.explain_report.specs.Places as spec;
 
 mod compared;

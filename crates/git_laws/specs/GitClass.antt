@@ -7,7 +7,7 @@ use Rattle.git_location.specs.Text.{text}
 use Rattle.git_location.specs.Settled.{IsValue}
 use Rattle.git_reads.specs.Git.{GitReading, GitReads}
 use Rattle.git_laws.specs.GitWeb.{ReadsOwnOverWeb}
-pub use Rattle.git_location.specs.GitClass.{is_contested, IsHostOfGit, HasPlainParts, HasNoOption, is_tilde_second, IsRsync, SuitsTransport, AgreesByTransport, AgreesWithGit}
+pub use Rattle.git_class.specs.GitClass.{is_contested, IsHostOfGit, HasPlainParts, HasNoOption, is_tilde_second, IsRsync, SuitsTransport, AgreesByTransport, AgreesWithGit}
 
 -- the host that Git reads, for a location's host: with `git://` it has no brackets around it
 abbrev pub HostForGit : Scheme → Option (List ℕ) → Option (List ℕ) → Type 0

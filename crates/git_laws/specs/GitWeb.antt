@@ -11,7 +11,7 @@ use Rattle.git_syntax.specs.Escapes.{is_sound}
 use Rattle.git_syntax.specs.Addresses.{IsIpv6Text}
 use Rattle.git_syntax.specs.Schemes.{scheme_text}
 use Rattle.git_syntax.specs.Hosts.{port_part}
-use Rattle.git_location.specs.WebClass.{is_uri_byte, HasDotSegment}
+use Rattle.git_class.specs.WebClass.{is_uri_byte, HasDotSegment}
 use Rattle.git_laws.specs.Components.{CutsPath}
 use Rattle.git_reads.specs.Credentials.{CredentialReading, CredentialReads, trimmed_path}
 

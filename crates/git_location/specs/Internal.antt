@@ -4,4 +4,3 @@ pub mod Pieces
 pub mod Sinks
 pub mod Fills
 pub mod SettledPieces
-pub mod WebPieces

@@ -5,9 +5,6 @@ pub mod Readings
 pub mod Display
 pub mod ErrorText
 pub mod Arguments
-pub mod WebClass
-pub mod WebConditions
-pub mod GitClass
 pub mod Safeguards
 pub mod Views
 pub mod UrlRef

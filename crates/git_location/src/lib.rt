@@ -1,7 +1,7 @@
 //! Borrowed Git locations: [`url_ref::UrlRef`], whose fields are slices of other texts.
 //!
 //! Everything that doesn't own a location is defined here, once: reading into a caller's buffer, writing, the
-//! settled class, the class of locations in whose texts Git reads the same place, and the tests of arguments.
+//! settled class, and the tests of arguments.
 //! No function here allocates.
 #![tactic(auto)]
 
@@ -10,10 +10,9 @@ pub mod argument;
 mod buffer;
 pub mod display;
 mod error_text;
-pub mod git;
 pub mod parse_error;
 pub mod read;
-mod settled;
+pub mod settled;
 mod to_url_ref;
 pub mod url_ref;
 pub mod value;

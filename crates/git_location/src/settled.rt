@@ -9,12 +9,12 @@ ghost use Rattle.git_location.specs.Internal.Pieces.{AreOwn};
 ghost use Rattle.git_location.specs.Settled.{IsSettled, IsSettledBy, IsValue};
 ghost use Rattle.git_location.specs.Text.{text};
 
-pub(crate) mod fields;
-pub(crate) mod host;
+pub mod fields;
+pub mod host;
 mod length_check;
 mod local;
 mod scp;
-pub(crate) mod url;
+pub mod url;
 
 use crate::url_ref::UrlRef;
 use crate::value::law_borrowed_value;

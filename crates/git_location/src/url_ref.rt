@@ -61,7 +61,7 @@ impl<'a> Model for UrlRef<'a> {
 
 impl UrlRef<'_> {
     /// Whether the location has a user, and it is empty.
-    pub(crate) fn has_empty_user(&self) -> bool
+    pub fn has_empty_user(&self) -> bool
         ensures { IsTrue result ↔ (self.now.user ≡ Some []) }
     {
         match self.user {

@@ -8,7 +8,7 @@ use Rattle.git_rules.specs.Config.{ConfigEntry, has_name}
 use Rattle.git_modules.specs.declared.submodules.risk.Risk.{Risk}
 use Rattle.git_modules.specs.declared.submodules.risk.Risk.TheVariants as risk
 use Rattle.git_modules.specs.Submodules.{has_component, submodule_of, value_by}
-use Rattle.git_location.specs.WebClass.{is_control}
+use Rattle.git_class.specs.WebClass.{is_control}
 
 -- a component of the text is the word, ignoring letter case
 abbrev pub has_component_word : List ℕ → List ℕ → Bool

@@ -8,7 +8,7 @@ use Rattle.std.specs.Char.{is_ascii_digit, is_ascii_lowercase}
 use Rattle.git_syntax.specs.Bytes.{dot, slash, FreeOf, Holds, begins_by, begins_with}
 use Rattle.git_syntax.proofs.Texts.CutLemmas.{cut_unique, free_head_tail, free_of_all, free_or_cut, not_free}
 use Rattle.git_readers.specs.Unambiguous.{AreLabels, HasDots, HasSlashBefore, IsPlainLabel, is_label_byte, slashes}
-use Rattle.git_location.specs.WebClass.{IsDots}
+use Rattle.git_class.specs.WebClass.{IsDots}
 
 -- ---- labels
 

@@ -12,7 +12,7 @@ use Rattle.git_syntax.proofs.Texts.CutLemmas.{all_weaker, begins_cut, free-appen
 use Rattle.git_syntax.specs.Hosts.{raw_user}
 use Rattle.git_location.specs.Text.{text}
 use Rattle.git_location.specs.Settled.{IsSettledBy, IsSettledLocal, IsSettledScp, IsValue, begins_with_slashes}
-use Rattle.git_location.specs.GitClass.{AgreesBy, SuitsTransport}
+use Rattle.git_class.specs.GitClass.{AgreesBy, SuitsTransport}
 use Rattle.git_location.proofs.Writing.WrittenAsUrlLemmas.{one_text}
 use Rattle.git_laws.proofs.GitReadings.GitPieceLemmas.{scp_host_raw}
 use Rattle.git_laws.proofs.GitReadings.GitTransportLemmas.{word_of}

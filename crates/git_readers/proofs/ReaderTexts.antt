@@ -14,8 +14,8 @@ use Rattle.git_syntax.specs.Hosts.{port_part}
 use Rattle.git_syntax.proofs.Texts.CutLemmas.{free_of_all}
 use Rattle.git_location.specs.Text.{canonical_path, canonical_text, host_part, keeps_host, needs_brackets, plain_path, text, user_information, root_part}
 use Rattle.git_location.specs.Settled.{HasCredentials, IsHosted, IsSettledBy, IsSettledFile, IsSettledGit, IsSettledSecure, IsSettledUrl, IsValue, IsWeb, IsTransportPath}
-use Rattle.git_location.specs.GitClass.{AgreesBy, SuitsTransport}
-use Rattle.git_location.specs.WebClass.{AgreesOverWeb}
+use Rattle.git_class.specs.GitClass.{AgreesBy, SuitsTransport}
+use Rattle.git_class.specs.WebClass.{AgreesOverWeb}
 use Rattle.git_location.proofs.SettledClass.SettledLemmas.{settled_as_web}
 use Rattle.git_location.proofs.Writing.WrittenAsUrlLemmas.{written_git, written_secure, written_web}
 use Rattle.git_laws.proofs.ComponentCuts.ComponentLemmas.{unmatched}

@@ -5,8 +5,8 @@ use Rattle.std.proofs.lemmas.List.{append-nil}
 use Rattle.git_syntax.specs.Location.{Scheme, Location}
 use Rattle.git_syntax.specs.Location.Scheme.{file, git, ssh, http, https, ext, helper, helper_url}
 use Rattle.git_syntax.specs.Bytes.{slash, begins_with}
-use Rattle.git_location.specs.GitClass.{AgreesBy, AgreesWithGit}
-use Rattle.git_location.specs.WebClass.{AgreesOverWeb, HasDotSegment}
+use Rattle.git_class.specs.GitClass.{AgreesBy, AgreesWithGit}
+use Rattle.git_class.specs.WebClass.{AgreesOverWeb, HasDotSegment}
 use Rattle.git_readers.specs.Conditions.{LacksDots, form, form_of}
 use Rattle.git_readers.specs.Unambiguous.{HasDots}
 use Rattle.git_readers.specs.declared.unambiguous.Form.{Form}

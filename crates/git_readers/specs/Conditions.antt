@@ -6,7 +6,7 @@ use Rattle.git_syntax.specs.Location.Scheme.{file, ssh, http, https}
 use Rattle.git_syntax.specs.Bytes.{Lacks, unrooted}
 use Rattle.git_syntax.specs.Escapes.{matches}
 use Rattle.git_location.specs.Settled.{begins_with_slashes}
-use Rattle.git_location.specs.GitClass.{AgreesWithGit, is_tilde_second}
+use Rattle.git_class.specs.GitClass.{AgreesWithGit, is_tilde_second}
 use Rattle.git_readers.specs.declared.unambiguous.Condition.{Condition}
 use Rattle.git_readers.specs.declared.unambiguous.Form.{Form}
 use Rattle.git_readers.specs.declared.unambiguous.Form.TheVariants.{Web, Transport, Scp, Local}

@@ -6,7 +6,7 @@ use Rattle.std.specs.Char.{is_ascii_alphanumeric, is_ascii_lowercase, is_ascii_d
 use Rattle.git_syntax.specs.Bytes.{hyphen, dot, slash, colon, at_sign, backslash, FreeOf, Holds, begins_by, begins_with, is_one_of, is_option_like}
 use Rattle.git_syntax.specs.Schemes.{is_ftp, is_known_scheme}
 use Rattle.git_syntax.specs.Addresses.{IsIpv4Text}
-use Rattle.git_location.specs.WebClass.{is_control, IsDots}
+use Rattle.git_class.specs.WebClass.{is_control, IsDots}
 
 -- ---- hosts
 

@@ -2,9 +2,9 @@
 
 ghost use Rattle.std.specs.Prelude.{◌≡◌, ◌↔◌, ◌++◌, ◌⊎◌, IsTrue, codes};
 ghost use Rattle.std.specs.List.{list_any};
-ghost use Rattle.git_location.specs.GitClass.{AgreesWithGit, is_tilde_second};
+ghost use Rattle.git_class.specs.GitClass.{AgreesWithGit, is_tilde_second};
 ghost use Rattle.git_location.specs.Settled.{begins_with_slashes};
-ghost use Rattle.git_location.specs.WebClass.{IsDots};
+ghost use Rattle.git_class.specs.WebClass.{IsDots};
 ghost use Rattle.git_syntax.specs.Bytes.{Holds, unrooted};
 ghost use Rattle.git_readers.specs.Conditions.{BeginsPlainly, HasPlainBytes, Meets};
 ghost use Rattle.git_readers.specs.Unambiguous as byte;

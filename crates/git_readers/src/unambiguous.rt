@@ -7,6 +7,7 @@ ghost use Rattle.git_readers.specs.Conditions.{IsFirstUnmet, IsUnambiguous, Meet
 
 use crate::host::{has_plain_host, has_plain_password, has_plain_scp_host, has_plain_user};
 use crate::path::{begins_plainly, has_plain_bytes, has_scp_slash, lacks_dots};
+use git_class::agreement::agrees_with_git;
 use git_location::url_ref::UrlRef;
 use git_syntax::escape::decodes_to;
 use git_syntax::scheme::SchemeRef;
@@ -99,7 +100,7 @@ pub fn unmet_condition(url: &UrlRef<'_>) -> Option<Condition>
     ensures met { IsNone result ↔ IsUnambiguous url.now }
     ensures first { IfSome result (λ condition. IsFirstUnmet condition url.now) }
 {
-    if !url.agrees_with_git() {
+    if !agrees_with_git(url) {
         Some(Condition::Git)
     } else if !is_unescaped(url) {
         Some(Condition::Escapes)

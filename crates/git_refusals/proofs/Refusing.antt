@@ -11,16 +11,5 @@ pub mod SchemeLemmas
 pub mod UrlLemmas
 pub mod FormLemmas
 pub mod ScpLemmas
--- Each check finds one place at most, and so a text has one refusal at most.
-pub mod OneCheckLemmas
-pub mod OneHostLemmas
-pub mod OneLemmas
--- The texts that are refused: the flaw that the error names is there, so such a text spells no location, and
--- its place is in it.
+-- The texts that are refused: the flaw that the error names is there, so such a text spells no location.
 pub mod UnspelledLemmas
-pub mod WithinLemmas
--- The front of a URL that is too long names its refusal.
-pub mod FrontLemmas
--- The places of the parts of a location.
-pub mod PartLemmas
-pub mod PartLawLemmas

@@ -2,5 +2,3 @@
 pub mod Readable
 pub mod Wrong
 pub mod Hosts
--- The pieces that are cut into parts.
-pub mod Pieces

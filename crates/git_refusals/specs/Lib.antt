@@ -4,8 +4,6 @@ pub mod Characters
 pub mod Reasons
 pub mod Promised
 pub mod Laws
-pub mod Fronts
-pub mod Parts
 pub mod Words
 -- Definitions for the proofs of this crate.
 pub mod Internal

@@ -6,7 +6,7 @@ use Rattle.git_syntax.specs.Escapes.{user_set}
 use Rattle.git_syntax.specs.Schemes.{scheme_text}
 use Rattle.git_location.specs.Text.{text}
 use Rattle.git_location.specs.Settled.{IsValue, IsWeb}
-use Rattle.git_location.specs.WebClass.{AgreesOverWeb}
+use Rattle.git_class.specs.WebClass.{AgreesOverWeb}
 use Rattle.git_rules.specs.Normal.{NormalPlace, IsNormalOf, is_own_port, normal_text}
 
 -- a text has at most one normal form

@@ -3,7 +3,7 @@
 use Rattle.std.specs.Prelude.{◌≡◌, ℕ, Bool, true, false, ◌||◌, ◌==◌, List, [], ◌∷◌, ◌++◌, codes, Option, Some, None}
 use Rattle.std.specs.List.{list_all}
 use Rattle.git_syntax.specs.Bytes.{dot, begins_with, is_scheme_text}
-use Rattle.git_location.specs.WebClass.{is_plain_host_byte}
+use Rattle.git_class.specs.WebClass.{is_plain_host_byte}
 use Rattle.git_reads.specs.Credentials.{CredentialReading}
 use Rattle.git_rules.specs.Normal.{NormalPlace, IsNormalOf}
 use Rattle.git_rules.specs.PartialUrls.{HasText, ReadsPartly}

@@ -6,7 +6,7 @@ use Rattle.git_syntax.specs.Schemes.{default_port_of, scheme_of}
 use Rattle.git_syntax.specs.Hosts.{port_part}
 use Rattle.git_location.specs.Text.{text}
 use Rattle.git_location.specs.Settled.{IsValue, IsWeb}
-use Rattle.git_location.specs.GitClass.{AgreesWithGit}
+use Rattle.git_class.specs.GitClass.{AgreesWithGit}
 use Rattle.git_reads.specs.Credentials.{CredentialReading, CredentialReads}
 use Rattle.git_laws.specs.GitWeb.{UriReading, UriReads}
 use Rattle.git_rules.specs.Normal.{asterisk, NormalPlace, IsNormalOf}

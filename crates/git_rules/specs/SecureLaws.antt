@@ -5,7 +5,7 @@ use Rattle.git_syntax.specs.Location.{Location}
 use Rattle.git_syntax.specs.Location.Scheme.{ssh}
 use Rattle.git_location.specs.Text.{text}
 use Rattle.git_location.specs.Settled.{IsValue}
-use Rattle.git_location.specs.GitClass.{AgreesWithGit}
+use Rattle.git_class.specs.GitClass.{AgreesWithGit}
 use Rattle.git_reads.specs.Git.{GitReading, GitReads, ReachesSecure}
 use Rattle.git_rules.specs.SecureShell.{Request, destination, request_refusal, ssh_refusal}
 

@@ -8,7 +8,7 @@ use Rattle.git_syntax.specs.Schemes.{is_ssh_scheme, scheme_text}
 use Rattle.git_syntax.specs.Grammar.{HelperCut, HasHelperForm}
 use Rattle.git_location.specs.Text.{text}
 use Rattle.git_location.specs.Settled.{IsValue}
-use Rattle.git_location.specs.GitClass.{AgreesWithGit}
+use Rattle.git_class.specs.GitClass.{AgreesWithGit}
 use Rattle.git_reads.specs.Git.{GitReading, GitReads, IsNoUrl, IsRemote, IsLocal}
 use Rattle.git_reads.specs.Unread.{IsGiven}
 use Rattle.git_rules.specs.declared.protocols.text.NoTransport.{NoTransport}

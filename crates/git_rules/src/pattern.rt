@@ -311,7 +311,7 @@ fn suffix<'a>(front: &[u8], text: &'a [u8]) -> Option<&'a [u8]>
 /// ```
 /// /// Whether the secret that is kept for a URL may be sent with a location's request, which is made to that URL's host.
 /// fn may_be_sent(url: &UrlRef<'_>, kept_for: &UrlPattern<'_>, place: &NormalUrl<'_>) -> bool {
-///     url.agrees_with_git() && kept_for.matches(place)
+///     agrees_with_git(url) && kept_for.matches(place)
 /// }
 /// ```
 pub fn law_patterns()

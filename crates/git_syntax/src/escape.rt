@@ -1,9 +1,8 @@
 //! Percent-encoding: the sets of escaped bytes, tests of escaped texts, and decoding.
 //!
-//! Each test is the definition of the same name in `specs/Escapes.antt` or `specs/Bytes.antt`. `decode` and
-//! `decoded_text` allocate once, and not at all if the text is empty. A text without `%` is copied unchanged.
+//! Each test is the definition of the same name in `specs/Escapes.antt` or `specs/Bytes.antt`.
 
-ghost use Rattle.std.specs.Prelude.{◌≡◌, ◌∷◌, ◌<◌, ◌+◌, ◌≤◌, ◌↔◌, IsTrue, IfOk, IsUtf8, length, take, true, string_bytes};
+ghost use Rattle.std.specs.Prelude.{◌≡◌, ◌∷◌, ◌<◌, ◌+◌, ◌≤◌, ◌↔◌, IsTrue, IsUtf8, length, take, true};
 ghost use Rattle.std.specs.Char.{is_digit};
 ghost use Rattle.percent_encoding.specs.Percent as percent;
 ghost use Rattle.git_syntax.specs.Escapes as spec;
@@ -14,11 +13,10 @@ ghost use Rattle.git_syntax.specs.Internal.Decoding.{PadsBlock, SplitsDecoded, S
 use crate::bytes::cut;
 use crate::digits::digit;
 use crate::runs::past_run;
-use crate::text::{into_text, is_plain, is_printable, is_utf8};
+use crate::text::{is_plain, is_printable, is_utf8};
 use crate::white_space::has_white_space;
 use percent_encoding::{AsciiSet, CONTROLS, ascii_set};
 use simdutf8::Checker;
-use std::alloc::{AllocError, Global};
 use std::simd::u8x64;
 
 /// The bytes that are escaped in the path of an HTTP location.
@@ -227,19 +225,6 @@ pub fn lacks_white_space(text: &str) -> bool
     is_printable(text.as_bytes()) || !has_white_space(text)
 }
 
-/// Returns the decoding of the text. Fails only if an allocation fails.
-pub fn decode(alloc: Global, text: &[u8]) -> Result<Vec<u8>, AllocError>
-    ensures { IfOk result (λ v. v.items ≡ percent.percent_decode text.now) }
-{
-    if !has_percent(text) {
-        return Vec::from_slice(alloc, text);
-    }
-    let mut bytes = Vec::from_slice(alloc, text)?;
-    let size = decode_into(bytes.as_mut_slice(), text);
-    bytes.truncate(size);
-    Ok(bytes)
-}
-
 /// Writes the decoding of the text to the front of the buffer and returns its length in bytes.
 pub fn decode_into(buffer: &mut [u8], text: &[u8]) -> usize
     requires { length (percent.percent_decode text.now) ≤ length buffer.old }
@@ -254,13 +239,4 @@ pub fn decode_into(buffer: &mut [u8], text: &[u8]) -> usize
         rest = suffix;
     }
     size
-}
-
-/// Returns the decoding of the text, which is UTF-8. Fails only if an allocation fails.
-pub fn decoded_text(alloc: Global, text: &[u8]) -> Result<String, AllocError>
-    requires { IsUtf8 (percent.percent_decode text.now) }
-    ensures { IfOk result (λ s. string_bytes s ≡ percent.percent_decode text.now) }
-{
-    let bytes = decode(alloc, text)?;
-    Ok(into_text(bytes))
 }

@@ -1,7 +1,7 @@
 //! Host and port, which follow the user information in an authority.
 //!
 //! Both are returned, as slices of the text, exactly if the text spells a host and a port. If an error is
-//! returned, the text has the flaw that the error names. Only [`HostPort::build`] allocates.
+//! returned, the text has the flaw that the error names.
 
 ghost use Rattle.std.specs.Prelude.{◌≡◌, ℕ, IsUtf8, ◌<◌, ◌↔◌, ◌++◌, ◌∷◌, List, Option, None, IsTrue, IfOk, IfErr, IfSome, MatchOption, false, length};
 ghost use Rattle.git_syntax.specs.Bytes.{FreeOf, begins_with, left_bracket, right_bracket};

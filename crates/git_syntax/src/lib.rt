@@ -4,8 +4,7 @@
 //! IPv6 addresses, schemes and hosts. The types of locations are in the crates above; contracts here describe
 //! a location by its eight fields (`specs/Location.antt`).
 //!
-//! No function here allocates, except [`host::HostPort::build`], [`escape::decode`] and
-//! [`escape::decoded_text`]. A test of a text returns the result of the definition that its contract names.
+//! No function here allocates. A test of a text returns the result of the definition that its contract names.
 #![tactic(auto)]
 
 pub mod address_law;
@@ -26,7 +25,6 @@ pub mod length;
 pub mod mask_law;
 mod masks;
 pub mod refusal;
-mod refusal_law;
 pub mod rules;
 mod runs;
 pub mod scheme;

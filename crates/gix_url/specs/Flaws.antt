@@ -7,7 +7,7 @@ use Rattle.git_refusals.specs.declared.reason.RefusalKind.TheVariants as kind
 use Rattle.git_refusals.specs.declared.refusal.Refusal.{Refusal}
 pub use Rattle.git_syntax.specs.Flaws.{IsNoPort, HasBadPort, IsPortPlace, IsNoHost, IsNoInner, BracketsAround, HasBadHost, HostPortFlaw, PieceOf, HasBadUser, AuthorityFlaw, UrlForm, OtherUrlForm, UrlCut, UrlFlaw, ScpNameFlaw, ScpHostFlaw, ScpFlaw, MissesPath, HasForm, IsTooLong, KindFlaw, NamesFlaw}
 pub use Rattle.git_refusals.specs.Characters.{IsFirstAt, IsBrokenAt, IsCharacterAt, is_no_scheme_character, is_no_host_character, unit_len, spelled_len, undecodable_at, undecodable_len}
-pub use Rattle.git_refusals.specs.Fronts.{scheme_length, shown_front}
+pub use Rattle.git_parts.specs.Fronts.{scheme_length, shown_front}
 pub use Rattle.git_refusals.specs.Kinds.{kind_of, fault_in, fault_of, refusal_of, empty_refusal}
 pub use Rattle.git_refusals.specs.Reasons.{IsAt, Shifted, Passes, Then, Undecodable, NotText, HasCharacter, HasBackslash, HasBrokenEscape, NoHostText, NoOther, NoInner, NoDigits, PortOutside, WebColons, BadColons, BadHost, BadUser, NoHostAfter, NoHostAtAll, BadParts, BadAuthority, TooLong, BadScheme, NoPath, BadRest, BadUrl, NoFilePath, BadFile, NoScpPath, NoScpHost, BadScpName, BadScpHost, BadFront, BadScp, BadAddressed, Refused}
 pub use Rattle.git_refusals.specs.Promised.{IsOfKind, NamesKind}

@@ -32,8 +32,8 @@ pub use Rattle.git_location.specs.Settled
 pub use Rattle.git_location.specs.Display
 pub use Rattle.git_location.specs.ErrorText
 pub use Rattle.git_location.specs.Arguments
-pub use Rattle.git_location.specs.WebClass
-pub use Rattle.git_location.specs.WebConditions
+pub use Rattle.git_class.specs.WebClass
+pub use Rattle.git_class.specs.WebConditions
 pub use Rattle.git_location.specs.UrlRef
 pub use Rattle.git_lines.specs.Answers
 pub use Rattle.git_reads.specs.Git

@@ -9,7 +9,7 @@ ghost use Rattle.gix_url.specs.Flaws.{Flaw, IsNotOfReading, ReturnsRefusal};
 use crate::home_user::ForUser;
 use bstr::BString;
 use git_location::write_error::WriteFault;
-use git_refusals::front::refusal_of_front;
+use git_parts::front::refusal_of_front;
 use git_refusals::read::refusal_of;
 use git_refusals::refusal::Refusal;
 use git_syntax::refusal::{UrlFault, UrlKind};

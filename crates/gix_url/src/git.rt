@@ -1,15 +1,16 @@
 //! The classes of locations in whose texts Git, or every reader of a family, reads the same fields.
 
 ghost use Rattle.std.specs.Prelude.{◌↔◌, IsTrue, IsNone, IfSome};
-ghost use Rattle.git_location.specs.GitClass.{AgreesWithGit};
+ghost use Rattle.git_class.specs.GitClass.{AgreesWithGit};
 ghost use Rattle.git_location.specs.Settled.{IsWeb};
-ghost use Rattle.git_location.specs.WebClass.{AgreesOverWeb};
-ghost use Rattle.git_location.specs.WebConditions.{IsFirstUnmet};
+ghost use Rattle.git_class.specs.WebClass.{AgreesOverWeb};
+ghost use Rattle.git_class.specs.WebConditions.{IsFirstUnmet};
 ghost use Rattle.git_readers.specs.Conditions as conditions;
 ghost use Rattle.git_readers.specs.Conditions.{IsUnambiguous};
 
 use crate::location::Url;
-use git_location::git::conditions::WebCondition;
+use git_class::agreement::agrees_with_git;
+use git_class::web_conditions::{WebCondition, unmet_web_condition};
 use git_readers::unambiguous::{Condition, is_unambiguous, unmet_condition};
 
 impl Url {
@@ -43,7 +44,7 @@ impl Url {
     pub fn agrees_with_git(&self) -> bool
         ensures { IsTrue result ↔ AgreesWithGit self.now }
     {
-        self.as_ref().agrees_with_git()
+        agrees_with_git(&self.as_ref())
     }
 
     /// The first condition that this location of HTTP doesn't meet: of those by which [`Url::agrees_with_git`]
@@ -62,7 +63,7 @@ impl Url {
         ensures other { ¬ IsWeb self.now → IsNone result }
         ensures first { IfSome result (λ condition. IsFirstUnmet condition self.now) }
     {
-        self.as_ref().unmet_web_condition()
+        unmet_web_condition(&self.as_ref())
     }
 
     /// Whether every reader of a family is known to find the same fields in the text of the location.

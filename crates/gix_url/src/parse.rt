@@ -9,6 +9,7 @@ ghost use Rattle.gix_url.specs.Readings.{Reads, Refuses};
 mod build;
 mod copies;
 mod from_fields;
+mod host;
 mod refusal;
 mod to_location;
 

@@ -6,13 +6,14 @@ ghost use Rattle.git_laws.specs.Records.{IsLegacy, SpellsFront, begins_escape, f
 ghost use Rattle.gix_url.specs.Stored.{recorded_location};
 
 use crate::copy::copy_text;
+use crate::decoded::decode;
 use crate::error::Error;
 use crate::location::Url;
 use crate::scheme::Scheme;
 use bstr::BString;
 use git_location::display::hidden_password;
 use git_syntax::bytes::append_within;
-use git_syntax::escape::{PATH, begins_with_digits, decode};
+use git_syntax::escape::{PATH, begins_with_digits};
 use percent_encoding::percent_encode_byte;
 use serde::{Deserialize, Serialize};
 use std::alloc::{AllocError, Global};

@@ -5,9 +5,9 @@ use Rattle.gix_url.specs.declared.error.Error.{Error}
 use Rattle.gix_url.specs.declared.error.Error.TheVariants as error
 use Rattle.git_refusals.specs.declared.refusal.Refusal.{Refusal}
 use Rattle.git_refusals.specs.Kinds.{kind_of}
-use Rattle.git_refusals.specs.Fronts.{shown_front}
+use Rattle.git_parts.specs.Fronts.{shown_front}
 use Rattle.git_refusals.specs.Reasons.{Refused}
-use Rattle.git_refusals.proofs.Refusing.OneLemmas.{one_refusal}
+use Rattle.git_parts.proofs.Refusing.OneLemmas.{one_refusal}
 use Rattle.gix_url.specs.Flaws.{Flaw, IsErrorOf, IsNotOfReading, ReturnsRefusal}
 use Rattle.gix_url_c.specs.Codes.{error_code, error_shown, error_total, has_problem, if_too_long, no_problem, problem_of_other, problem_of_refusal, refusal_problem}
 

@@ -11,7 +11,7 @@ use Rattle.git_refusals.specs.declared.reason.RefusalKind.{RefusalKind}
 use Rattle.git_refusals.specs.declared.reason.RefusalKind.TheVariants as refusal
 use Rattle.git_refusals.specs.declared.refusal.Refusal.{Refusal}
 use Rattle.git_refusals.specs.Kinds.{kind_of}
-use Rattle.git_refusals.specs.Fronts.{shown_front}
+use Rattle.git_parts.specs.Fronts.{shown_front}
 use Rattle.git_refusals.specs.Reasons.{Refused}
 use Rattle.git_location.specs.declared.write_error.WriteFault.{WriteFault}
 use Rattle.git_location.specs.declared.write_error.WriteFault.TheVariants as unwritten

@@ -6,7 +6,7 @@ ghost use Rattle.gix_url.specs.Flaws.{IsNotOfReading};
 ghost use Rattle.gix_url_c.specs.Codes.{HasNumber, Reports, condition_number, condition_reported, error_code, error_shown, error_total, fault_number, fault_reported, kind_code, kind_number, kind_reported, no_problem, problem_of_other, problem_of_refusal, reason_number, refusal_code, refusal_problem, write_fault_number, write_problem};
 
 use crate::tables::{number_of, numbered};
-use git_refusals::front::shown_front;
+use git_parts::front::shown_front;
 use gix_url::parse::UrlKind;
 use gix_url::unambiguous::Condition;
 use gix_url::{Error, Reason, Refusal, RefusalKind, UrlFault, WriteFault};

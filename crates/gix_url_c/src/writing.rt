@@ -16,8 +16,8 @@ use crate::codes::{
     unwritable,
 };
 use crate::input::{PartBytes, location_of};
-use gix_url::UrlRef;
 use gix_url::unambiguous::unmet_condition;
+use gix_url::{UrlRef, agrees_with_git};
 use std::alloc::Global;
 
 /// Reports whether the location is settled: [`gix_url::UrlRef::is_settled`].
@@ -40,7 +40,7 @@ pub extern "C" fn gix_url_c_is_settled(passed: &PartBytes<'_>, settled: &mut boo
 }
 
 /// Reports whether Git is known to read the location's own fields in its text:
-/// [`gix_url::UrlRef::agrees_with_git`].
+/// [`gix_url::agrees_with_git`].
 ///
 /// Returns 0, or 101 if the parts aren't a location.
 #[unsafe(no_mangle)]
@@ -52,7 +52,7 @@ pub extern "C" fn gix_url_c_agrees_with_git(passed: &PartBytes<'_>, agrees: &mut
 {
     match location_of(passed) {
         Some(url) => {
-            *agrees = url.agrees_with_git();
+            *agrees = agrees_with_git(&url);
             OK
         }
         None => NO_LOCATION,

@@ -10,7 +10,9 @@ use crate::report::{Out, Taking, report_borrowed, report_member, report_name, re
 use crate::shown::{show, show_display};
 use bstr::{BStr, BString};
 use gix_url::unambiguous::{is_unambiguous, unmet_condition};
-use gix_url::{Error, PathComponents, Url, UrlRef, WriteError, laws};
+use gix_url::{
+    Error, PathComponents, Url, UrlRef, WriteError, agrees_with_git, laws, unmet_web_condition,
+};
 use std::alloc::Global;
 use std::io::Write;
 
@@ -103,8 +105,8 @@ fn look_at_borrowed(alloc: Global, order: Order<'_>, url: &Url, out: &mut Out) -
     let borrowed = url.as_ref();
     match order.call() {
         "Url::as_ref" => report_borrowed(out, &borrowed),
-        "UrlRef::agrees_with_git" => report_borrowed(out, &borrowed.agrees_with_git()),
-        "UrlRef::unmet_web_condition" => report_borrowed(out, &borrowed.unmet_web_condition()),
+        "crate::agrees_with_git" => report_borrowed(out, &agrees_with_git(&borrowed)),
+        "crate::unmet_web_condition" => report_borrowed(out, &unmet_web_condition(&borrowed)),
         "unambiguous::is_unambiguous" => report_borrowed(out, &is_unambiguous(&borrowed)),
         "unambiguous::unmet_condition" => report_borrowed(out, &unmet_condition(&borrowed)),
         "UrlRef::is_settled" => report_borrowed(out, &borrowed.is_settled()),

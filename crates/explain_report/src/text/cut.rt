@@ -1,6 +1,6 @@
 //! A line cut into named pieces, which show how it is read.
 //!
-//! The parts of a location are those of `git_refusals`, and the text between two parts is a mark. In a line without
+//! The parts of a location are those of `git_parts`, and the text between two parts is a mark. In a line without
 //! parts, `git_audit` finds the possible secrets. A secret can't be read from a piece: outside of this module there is
 //! only the word `redacted` in its place.
 
@@ -12,7 +12,7 @@ use crate::marks::{halves, holds};
 use crate::text::secret::{between, size_of, word_for};
 use bstr::ByteSlice;
 use git_audit::secret::secrets;
-use git_refusals::parts::{PartForm, Parts, Span};
+use git_parts::parts::{PartForm, Parts, Span};
 
 /// The kind of a piece.
 #[derive(Clone, Copy)]

@@ -16,7 +16,7 @@ use crate::text::printed::{Spelling, spelled, write_quoted, write_text};
 use crate::text::secret::{between, shown_bytes};
 use crate::text::shell_word::write_word;
 use bstr::ByteSlice;
-use git_refusals::parts::parts_of;
+use git_parts::parts::parts_of;
 use std::alloc::{AllocError, Global};
 use std::fmt;
 

@@ -2,7 +2,7 @@
 
 use crate::text::secret::{REDACTED, size_of};
 use git_audit::secret::secrets;
-use git_refusals::parts::Span;
+use git_parts::parts::Span;
 
 /// Whether a part of a text has this span in the text as it is shown, or is absent from both.
 pub(crate) fn is_moved(text: &[u8], part: Option<Span>, shown: Option<Span>) -> bool {

@@ -14,7 +14,7 @@ use crate::text::place::is_moved;
 use crate::text::secret::{is_same, shown_bytes, word_for};
 use bstr::BStr;
 use git_audit::secret::law::law_secrets;
-use git_refusals::parts::{Parts, Span, parts_of};
+use git_parts::parts::{Parts, Span, parts_of};
 use gix_url::parse::parse;
 use gix_url::{Error, Url};
 use std::alloc::{AllocError, Global};

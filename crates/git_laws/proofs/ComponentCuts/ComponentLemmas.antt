@@ -29,7 +29,7 @@ use Rattle.git_syntax.proofs.Unique.UniqueLemmas.{spells_unique}
 use Rattle.git_laws.proofs.Writing.AgainLemmas.{web_spelled}
 use Rattle.git_location.proofs.Writing.WrittenAsUrlLemmas.{one_text, written_web}
 use Rattle.git_location.proofs.SettledClass.SettledLemmas.{settled_as_web}
-use Rattle.git_location.proofs.SettledClass.WebClassLemmas.{web_path}
+use Rattle.git_class.proofs.Classes.WebClassLemmas.{web_path}
 
 -- every number of the text is a byte
 abbrev IsBytes : List ℕ → Type 0

@@ -11,8 +11,8 @@ use Rattle.git_location.specs.Text.{raw_host, canonical_text, text}
 use Rattle.git_location.specs.Settled.{IsValue, IsWeb, IsNormalAddress, IsScpName, IsSettledLocal, IsSettledFile, IsSettledScp, IsSettledBy, LooksLikeHelper}
 use Rattle.std.proofs.lemmas.Option.{IfSome_then}
 use Rattle.git_reads.specs.Git.{HostAndPort, on_this_machine, IsNoUrl, IsLocal, ReachesSecure, ReadsInput}
-use Rattle.git_location.specs.GitClass.{is_contested, HasPlainParts, is_tilde_second, IsRsync, SuitsTransport, AgreesByTransport, AgreesBy}
-use Rattle.git_location.specs.WebClass.{AgreesOverWeb}
+use Rattle.git_class.specs.GitClass.{is_contested, HasPlainParts, is_tilde_second, IsRsync, SuitsTransport, AgreesByTransport, AgreesBy}
+use Rattle.git_class.specs.WebClass.{AgreesOverWeb}
 use Rattle.git_laws.specs.GitWeb.{ReadsOwnOverWeb}
 use Rattle.git_laws.specs.GitClass.{HostForGit, own_reading, ReadsOwnBy, ReadAlike}
 use Rattle.git_syntax.proofs.Texts.CutLemmas.{begins_cut, cut_unique, free-append, free-cons, free_of_lacked, free_or_cut, free_parts, not_free}

@@ -23,7 +23,7 @@ use Rattle.git_location.specs.Settled.{IsRawPath, IsTransportPath}
 use Rattle.git_syntax.specs.Grammar.{begins_at_home}
 use Rattle.git_syntax.specs.Hosts.{port_part, raw_user}
 use Rattle.git_reads.specs.Git.{from_tilde}
-use Rattle.git_location.specs.GitClass.{is_tilde_second}
+use Rattle.git_class.specs.GitClass.{is_tilde_second}
 use Rattle.git_syntax.proofs.Addresses.AddressTestLemmas.{ipv6_text_to}
 use Rattle.git_syntax.proofs.Texts.CutLemmas.{lacks-cons, lacks_head_tail, free_head_tail, free-append, free-cons, free_of_all, free_of_lacked, begins_cut}
 use Rattle.git_syntax.proofs.Texts.EscapeLemmas.{decode_byte, decode_kept}

@@ -19,7 +19,7 @@ use Rattle.git_syntax.specs.Hosts.{port_part, raw_user}
 use Rattle.git_location.specs.Text.{keeps_host, canonical_host, canonical_path, canonical_text, text}
 use Rattle.git_location.specs.Settled.{IsValue, IsNormalName, IsBareHost, IsBracketedHost, IsTransportPath, IsSettledRaw, IsSettledSecure, IsSettledGit, IsRawPath}
 use Rattle.git_reads.specs.Git.{GitReading, git_decode, CutsPlace, HostAndPort, SecurePort, UserCut, ReachesSecure, ReachesGit, OwnUrl, ReadsInput, GitReads}
-use Rattle.git_location.specs.GitClass.{is_contested, IsPlainPart, IsBracketedOfGit, IsHostOfGit, HasNoOption, AgreesByTransport}
+use Rattle.git_class.specs.GitClass.{is_contested, IsPlainPart, IsBracketedOfGit, IsHostOfGit, HasNoOption, AgreesByTransport}
 use Rattle.git_laws.specs.GitClass.{HostForGit, own_reading, ReadsOwnPlace, ReadsOwnBy}
 use Rattle.git_syntax.proofs.Texts.CutLemmas.{free-append, free-cons, free_begins, free_head_tail, free_of_lacked, free_parts, not_free}
 use Rattle.git_syntax.proofs.Texts.EscapeLemmas.{decode_encode_utf8, decode_kept, decodes_in_parts, encode_sound, sound_free}

@@ -13,7 +13,7 @@ use Rattle.git_syntax.specs.Schemes.{scheme_text}
 use Rattle.git_syntax.specs.Hosts.{port_part}
 use Rattle.git_location.specs.Text.{user_information, canonical_path, canonical_text}
 use Rattle.git_location.specs.Settled.{begins_with_slashes, first_byte, IsValue, IsWeb}
-use Rattle.git_location.specs.WebClass.{is_control, is_uri_byte, IsDecodedWhole, is_plain_host_byte, IsUnambiguousUser, IsUnambiguousPassword, AgreesOverWeb}
+use Rattle.git_class.specs.WebClass.{is_control, is_uri_byte, IsDecodedWhole, is_plain_host_byte, IsUnambiguousUser, IsUnambiguousPassword, AgreesOverWeb}
 use Rattle.git_reads.specs.Git.{escaped_byte, git_decode}
 use Rattle.git_reads.specs.Credentials.{CredentialDecodes, CredentialCut, CredentialPath, CredentialReads, AreOneLine, IsOneLine, are_slashes, without_last_slashes, trimmed_path}
 use Rattle.git_laws.specs.GitWeb.{below_root, own_credential}
@@ -26,7 +26,7 @@ use Rattle.git_laws.proofs.Writing.PieceTextLemmas.{password_decoded, password_p
 use Rattle.git_laws.proofs.Writing.WrittenPathLemmas.{starts_alike, web_path_writing}
 use Rattle.git_laws.proofs.Writing.WrittenUrlLemmas.{authority_text, canonical_cut}
 use Rattle.git_location.proofs.SettledClass.SettledLemmas.{settled_as_web}
-use Rattle.git_location.proofs.SettledClass.WebClassLemmas.{IsWebForm}
+use Rattle.git_class.proofs.Classes.WebClassLemmas.{IsWebForm}
 use Rattle.git_laws.proofs.GitReadings.GitCutLemmas.{git_decode_kept}
 use Rattle.git_laws.proofs.GitReadings.WebTextLemmas.{web_authority, web_scheme}
 

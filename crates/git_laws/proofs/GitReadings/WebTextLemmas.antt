@@ -9,12 +9,12 @@ use Rattle.git_syntax.specs.Schemes.{scheme_text}
 use Rattle.git_syntax.specs.Hosts.{port_part}
 use Rattle.git_location.specs.Text.{user_information, host_part, canonical_text, text}
 use Rattle.git_location.specs.Settled.{IsValue, IsWeb, IsWebHost}
-use Rattle.git_location.specs.WebClass.{IsUnambiguousHost, AgreesOverWeb}
+use Rattle.git_class.specs.WebClass.{IsUnambiguousHost, AgreesOverWeb}
 use Rattle.git_reads.specs.Credentials.{IsOneLine}
 use Rattle.git_laws.proofs.Writing.WrittenWebHostLemmas.{web_host_same, web_host_written}
 use Rattle.git_laws.proofs.Writing.WrittenUrlLemmas.{authority_text, authority_with_host}
 use Rattle.git_location.proofs.SettledClass.SettledLemmas.{settled_as_web}
-use Rattle.git_location.proofs.SettledClass.WebClassLemmas.{IsWebForm, url_host_form}
+use Rattle.git_class.proofs.Classes.WebClassLemmas.{IsWebForm, url_host_form}
 
 -- a location of the class has the text of a URL
 pub web_text : (v : Location) → IsWeb v → AgreesOverWeb v → text v ≡ Ok (canonical_text v)

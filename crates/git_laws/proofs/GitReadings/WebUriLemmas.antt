@@ -20,7 +20,7 @@ use Rattle.git_syntax.specs.Schemes.{scheme_text}
 use Rattle.git_syntax.specs.Hosts.{port_part}
 use Rattle.git_location.specs.Text.{user_information, canonical_path, canonical_text}
 use Rattle.git_location.specs.Settled.{IsValue, IsBracketedAddress, IsWeb}
-use Rattle.git_location.specs.WebClass.{is_plain_host_byte, is_uri_byte, is_segment_end, HasDotSegment, AgreesOverWeb}
+use Rattle.git_class.specs.WebClass.{is_plain_host_byte, is_uri_byte, is_segment_end, HasDotSegment, AgreesOverWeb}
 use Rattle.git_laws.specs.Components.{CutsPath}
 use Rattle.git_laws.specs.GitWeb.{UriAuthority, UriPort, UriHost, is_host_byte, IsEscaped, UriReading, UriReads, IsNormalUri, IsOwnInformation, with_query, IsOwnUri}
 use Rattle.git_syntax.proofs.Texts.CutLemmas.{all_weaker, free-append, free-cons, free_begins, free_of_all, free_or_cut}
@@ -32,7 +32,7 @@ use Rattle.git_laws.proofs.Writing.PieceTextLemmas.{user_piece, password_piece, 
 use Rattle.git_laws.proofs.Writing.WrittenPathLemmas.{starts_alike, web_path_writing}
 use Rattle.git_laws.proofs.Writing.WrittenUrlLemmas.{authority_text, canonical_cut}
 use Rattle.git_location.proofs.SettledClass.SettledLemmas.{settled_as_web}
-use Rattle.git_location.proofs.SettledClass.WebClassLemmas.{plain_lowercase}
+use Rattle.git_class.proofs.Classes.WebClassLemmas.{plain_lowercase}
 use Rattle.git_laws.proofs.GitReadings.WebTextLemmas.{web_authority, web_scheme}
 
 -- ---- escaped texts

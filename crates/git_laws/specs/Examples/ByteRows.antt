@@ -10,7 +10,7 @@ use Rattle.git_syntax.specs.Escapes.{path_set, password_set, user_set, is_path_e
 use Rattle.git_syntax.specs.Addresses.{is_zone_byte}
 use Rattle.git_syntax.specs.Hosts.{is_dns_byte, is_http_host_byte}
 use Rattle.git_location.specs.Internal.KeptBytes.{is_unescaped_in_path, is_unescaped_in_user}
-use Rattle.git_location.specs.GitClass.{is_contested}
+use Rattle.git_class.specs.GitClass.{is_contested}
 
 -- the bytes that pass the test, in order
 abbrev pub members : (ℕ → Bool) → List ℕ

@@ -3,13 +3,13 @@ use Rattle.std.proofs.Common.{◌≡◌, ◌∙◌, ◌≤◌, ◌++◌, ◌∷�
 use Rattle.std.specs.List.{list_all}
 use Rattle.std.specs.Prelude.{IfSome}
 use Rattle.std.specs.Str.{IsUtf8}
-use Rattle.std.proofs.lemmas.Bool.{and_parts, both_ways, cases_Bool, cond_both, eqb-true}
+use Rattle.std.proofs.lemmas.Bool.{and_parts, both_ways, cases_Bool, cond_both, eqb-true, or_left}
 use Rattle.std.proofs.lemmas.Bool.Decides.{nat_tests}
 use Rattle.percent_encoding.specs.Percent.{percent_encode}
 use Rattle.git_syntax.specs.AddressTest.{is_ipv6_text}
 use Rattle.git_syntax.specs.Authority.{FitsText}
 use Rattle.git_syntax.specs.Escapes.{password_set, user_set}
-use Rattle.git_syntax.specs.Bytes.{FreeOf, at_sign, begins_with, colon, left_bracket, slash}
+use Rattle.git_syntax.specs.Bytes.{FreeOf, at_sign, begins_by, begins_with, colon, is_path_start, left_bracket, slash}
 use Rattle.git_syntax.specs.Location.{Location, Scheme, path_alone}
 use Rattle.git_syntax.specs.Location.Scheme.{file, git, ssh, http, https, helper_url}
 use Rattle.git_syntax.specs.Schemes.{requires_path, scheme_text}
@@ -29,10 +29,16 @@ use Rattle.git_syntax.proofs.Texts.CutLemmas.{free_begins, held_free, scheme_tex
 use Rattle.git_syntax.proofs.Texts.EscapeLemmas.{utf8_after}
 use Rattle.git_syntax.proofs.Texts.PlainLemmas.{plain_utf8}
 use Rattle.git_location.proofs.SettledClass.SettledLemmas.{plain_raw_path, simple_normal_name, simple_scp_name, simple_web_host}
-use Rattle.git_location.proofs.SettledClass.WebClassLemmas.{rooted_starts}
 use Rattle.git_location.proofs.SettledClass.UnchangedLemmas.{helper_unchanged, local_unchanged}
 use Rattle.git_location.proofs.Texts.UnescapedLemmas.{common_path, ready_password, ready_user}
 use Rattle.git_location.proofs.Writing.WrittenAsUrlLemmas.{written_git, written_other, written_secure, written_web}
+
+-- ---- paths
+
+-- a path that begins with `/` begins as one of HTTP
+pub rooted_starts : (path : List ℕ) → begins_with slash path ≡ true → begins_by (is_path_start true) path ≡ true
+rooted_starts [] rooted = rooted
+rooted_starts (b ∷ bs) rooted = or_left _ _ rooted
 
 -- ---- bytes that are written as they are
 

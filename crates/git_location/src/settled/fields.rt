@@ -37,7 +37,7 @@ pub(crate) fn has_match(url: &UrlRef<'_>) -> bool
 }
 
 /// Whether the text begins with `//`.
-pub(crate) fn begins_with_slashes(text: &[u8]) -> bool
+pub fn begins_with_slashes(text: &[u8]) -> bool
     ensures { result ≡ begins_with_slashes text.now }
 {
     match text {

@@ -83,7 +83,7 @@ pub(crate) fn is_bracketed_host(host: &[u8]) -> bool
 }
 
 /// Whether the text is an IPv6 text in lower case, in brackets.
-pub(crate) fn is_bracketed_address(host: &[u8]) -> bool
+pub fn is_bracketed_address(host: &[u8]) -> bool
     ensures { IsTrue result ↔ IsBracketedAddress host.now }
 {
     match in_brackets(host) {

@@ -187,7 +187,7 @@ fn is_settled_url(url: &UrlRef<'_>, laid: Option<&Pieces<'_>>) -> bool
 }
 
 /// Whether the location meets the conditions that all settled URLs have in common, except for those on paths.
-pub(crate) fn is_settled_beside_path(url: &UrlRef<'_>, laid: Option<&Pieces<'_>>) -> bool
+pub fn is_settled_beside_path(url: &UrlRef<'_>, laid: Option<&Pieces<'_>>) -> bool
     requires { IsWrittenAsUrl url.now }
     ensures { AreOwn laid.entry url.now → (IsTrue result ↔ IsSettledBesidePath url.now) }
 {
@@ -246,7 +246,7 @@ fn is_fair_spelling(spelling: &[u8], path: &[u8]) -> bool
 
 /// Whether the spelling, which decodes to the path, has a `%` and is sound. Then, and only then, each `%` makes
 /// it longer than the path by two bytes.
-pub(crate) fn has_only_escapes(spelling: &[u8], path: &[u8]) -> bool
+pub fn has_only_escapes(spelling: &[u8], path: &[u8]) -> bool
     requires { DecodesTo spelling.now path.now }
     ensures { IsTrue result
         ↔ ((is_sound spelling.now ≡ true) × (has_percent spelling.now ≡ true)) }
@@ -256,7 +256,7 @@ pub(crate) fn has_only_escapes(spelling: &[u8], path: &[u8]) -> bool
 }
 
 /// Whether the texts have the same first byte, or are both empty.
-pub(crate) fn begin_alike(text: &[u8], other: &[u8]) -> bool
+pub fn begin_alike(text: &[u8], other: &[u8]) -> bool
     ensures { IsTrue result ↔ (first_byte text.now ≡ first_byte other.now) }
 {
     match (text, other) {

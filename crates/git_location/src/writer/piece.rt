@@ -352,7 +352,7 @@ fn escaped_len(text: &[u8], set: AsciiSet) -> u128
 }
 
 /// The number of bytes of the text that are written as escapes.
-pub(crate) fn count_escaped(text: &[u8], set: AsciiSet) -> usize
+pub fn count_escaped(text: &[u8], set: AsciiSet) -> usize
     ensures { result ≡ count_by (should_percent_encode set) text.now }
 {
     text.iter()

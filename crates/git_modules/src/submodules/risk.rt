@@ -6,7 +6,7 @@ ghost use Rattle.std.specs.Prelude.{◌≡◌};
 ghost use Rattle.std.specs.List.{list_any};
 ghost use Rattle.git_modules.specs.SubmoduleRisks.{git_folder, has_component_word, has_risk, has_valued_name};
 ghost use Rattle.git_syntax.specs.Bytes.{begins_by, is_any_slash};
-ghost use Rattle.git_location.specs.WebClass.{is_control};
+ghost use Rattle.git_class.specs.WebClass.{is_control};
 
 use crate::submodules::{has_component, is_separator, submodule_of, value_by};
 use git_rules::config::Entry;

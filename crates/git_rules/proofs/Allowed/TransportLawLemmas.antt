@@ -12,7 +12,7 @@ use Rattle.git_syntax.specs.Internal.Cuts.{url_mark}
 use Rattle.git_syntax.specs.Schemes.{is_ssh_scheme, scheme_of, scheme_text}
 use Rattle.git_reads.specs.Git.{GitReading, OwnUrl, IsNoUrl, IsRemote, ReadsInput}
 use Rattle.git_reads.specs.Transports.{BeginsBy, NamesHelper}
-use Rattle.git_location.specs.GitClass.{SuitsTransport, AgreesByTransport, AgreesBy}
+use Rattle.git_class.specs.GitClass.{SuitsTransport, AgreesByTransport, AgreesBy}
 use Rattle.git_laws.specs.GitWeb.{ReadsOwnOverWeb}
 use Rattle.git_laws.specs.GitClass.{own_reading, ReadAlike, ReadsOwnBy, ReadsOwnPlace}
 use Rattle.git_syntax.proofs.Texts.CutLemmas.{different_bytes, free_or_cut, not_free, tails}

@@ -10,8 +10,8 @@ use Rattle.std.proofs.lemmas.List.Folds.{list_all-append}
 use Rattle.git_syntax.specs.Bytes.{at_sign, colon, dot, percent_sign, FreeOf, Lacks, begins_by, begins_with, is_path_start, lowercase}
 use Rattle.git_syntax.proofs.Texts.CutLemmas.{free_head_tail, free_of_all, heads, held_free, lacks_head_tail, lacks_of_all, lacks_parts, mark_cut_unique, not_free, scheme_text_free, tails}
 use Rattle.git_syntax.proofs.Parsing.FormLemmas.{scheme_cut_unique}
-use Rattle.git_location.specs.WebClass.{is_plain_host_byte}
-use Rattle.git_location.proofs.SettledClass.WebClassLemmas.{plain_lowercase}
+use Rattle.git_class.specs.WebClass.{is_plain_host_byte}
+use Rattle.git_class.proofs.Classes.WebClassLemmas.{plain_lowercase}
 use Rattle.git_reads.specs.Credentials.{CredentialCut, CredentialDecodes, CredentialReading}
 use Rattle.git_reads.specs.Git.{git_decode}
 use Rattle.git_laws.proofs.GitReadings.GitCutLemmas.{no_git_escape}

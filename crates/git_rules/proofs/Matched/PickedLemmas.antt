@@ -11,8 +11,8 @@ use Rattle.git_syntax.specs.Schemes.{scheme_text}
 use Rattle.git_syntax.proofs.Parsing.HostLemmas.{number_written}
 use Rattle.git_syntax.proofs.Texts.CutLemmas.{different_bytes, free_of_all, not_free}
 use Rattle.git_location.specs.Settled.{IsBracketedAddress, IsWeb}
-use Rattle.git_location.specs.GitClass.{AgreesBy, AgreesWithGit}
-use Rattle.git_location.specs.WebClass.{AgreesOverWeb, IsLastLabel, IsUnambiguousHost}
+use Rattle.git_class.specs.GitClass.{AgreesBy, AgreesWithGit}
+use Rattle.git_class.specs.WebClass.{AgreesOverWeb, IsLastLabel, IsUnambiguousHost}
 use Rattle.git_laws.specs.GitWeb.{UriReading, ReadsOwnOverWeb, own_credential}
 use Rattle.git_laws.specs.GitClass.{ReadsOwn, ReadsOwnBy}
 use Rattle.git_laws.proofs.GitReadings.GitLemmas.{read_same}

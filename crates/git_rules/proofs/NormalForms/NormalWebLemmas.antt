@@ -25,9 +25,9 @@ use Rattle.git_syntax.proofs.Parsing.HostLemmas.{decimal_digits, number_written}
 use Rattle.git_location.specs.declared.write_error.WriteFault.{WriteFault}
 use Rattle.git_location.specs.Text.{user_information, canonical_path, canonical_text, text}
 use Rattle.git_location.specs.Settled.{IsValue, IsWeb, IsBracketedAddress}
-use Rattle.git_location.specs.WebClass.{IsUnambiguousHost, is_plain_host_byte, AgreesOverWeb}
+use Rattle.git_class.specs.WebClass.{IsUnambiguousHost, is_plain_host_byte, AgreesOverWeb}
 use Rattle.git_location.proofs.SettledClass.SettledLemmas.{settled_as_web}
-use Rattle.git_location.proofs.SettledClass.WebClassLemmas.{url_host_form, plain_lowercase}
+use Rattle.git_class.proofs.Classes.WebClassLemmas.{url_host_form, plain_lowercase}
 use Rattle.git_laws.proofs.Writing.PieceTextLemmas.{user_piece, password_piece, user_no_colon}
 use Rattle.git_laws.proofs.Writing.WrittenPathLemmas.{starts_alike, web_path_writing}
 use Rattle.git_laws.proofs.Writing.WrittenUrlLemmas.{authority_text, canonical_cut}

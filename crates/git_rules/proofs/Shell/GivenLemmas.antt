@@ -14,7 +14,7 @@ use Rattle.git_syntax.specs.Escapes.{password_set, user_set}
 use Rattle.git_syntax.specs.Authority.{unless_empty}
 use Rattle.git_syntax.proofs.Texts.CutLemmas.{free_of_lacked}
 use Rattle.git_location.specs.Settled.{IsSettledScp, IsSettledSecure, IsSettledBy}
-use Rattle.git_location.specs.GitClass.{is_contested, IsPlainPart, IsHostOfGit, SuitsTransport, AgreesByTransport, AgreesBy}
+use Rattle.git_class.specs.GitClass.{is_contested, IsPlainPart, IsHostOfGit, SuitsTransport, AgreesByTransport, AgreesBy}
 use Rattle.git_reads.specs.Git.{GitReading, GitReads, ReadsInput, ReachesSecure, UserCut, from_tilde}
 use Rattle.git_laws.specs.GitClass.{HostForGit, own_reading, ReadsOwnPlace, ReadsOwnBy, ReadsOwn, ReadAlike}
 use Rattle.git_laws.proofs.GitReadings.GitPieceLemmas.{kept_free}

@@ -2,7 +2,7 @@
 
 ghost use Rattle.std.specs.Prelude.{◌≡◌, ◌∷◌, ◌++◌, [], IsTrue, MatchOption, codes};
 ghost use Rattle.git_syntax.specs.Bytes.{FreeOf, at_sign};
-ghost use Rattle.git_location.specs.WebClass as web;
+ghost use Rattle.git_class.specs.WebClass as web;
 ghost use Rattle.git_rules.specs.OtherHosts.{DiffersPlainly, FollowsScheme, NamesOtherHost};
 
 use git_syntax::bytes::{after, is_free_of};

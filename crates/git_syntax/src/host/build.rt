@@ -1,31 +1,18 @@
 //! The text of a host, from the slices that were read.
 //!
-//! It is written into the caller's buffer, or into a string that is allocated once.
+//! It is written into the caller's buffer.
 
-ghost use Rattle.std.specs.Prelude.{◌≡◌, ◌+◌, ◌≤◌, ◌++◌, IfOk, IsUtf8, drop, length, string_bytes, take};
+ghost use Rattle.std.specs.Prelude.{◌≡◌, ◌+◌, ◌≤◌, ◌++◌, drop, length, take};
 ghost use Rattle.git_syntax.specs.Bytes.{lowercase};
 ghost use Rattle.git_syntax.specs.Hosts as spec;
-ghost use Rattle.git_syntax.specs.Internal.HostPieces.{is_bracketed, lowercase_address, denoted_host, named_text, normal_case, slice_text, unescaped_host};
+ghost use Rattle.git_syntax.specs.Internal.HostPieces.{is_bracketed, lowercase_address, denoted_host, named_text, normal_case, unescaped_host};
 
 use crate::bytes::{copy_into, cut};
 use crate::escape::decode_into;
 use crate::host::bytes::is_like_domain;
 use crate::host::{HostPiece, HostPort};
-use crate::text::into_text;
-use std::alloc::{AllocError, Global};
 
 impl HostPort<'_> {
-    /// Returns the text of the host. Fails only if an allocation fails.
-    pub fn build(self, alloc: Global) -> Result<String, AllocError>
-        requires { IsUtf8 (named_text self) }
-        ensures { IfOk result (λ s. string_bytes s ≡ named_text self.entry) }
-    {
-        let mut text = vec![in alloc; 0; piece_bytes(self.piece).len() + 3]?;
-        let size = self.write_into(&mut text);
-        text.truncate(size);
-        Ok(into_text(text))
-    }
-
     /// Writes the text of the host to the front of the buffer and returns its length in bytes.
     pub fn write_into(self, buffer: &mut [u8]) -> usize
         requires { length (named_text self) ≤ length buffer.old }
@@ -38,21 +25,6 @@ impl HostPort<'_> {
         }
         buffer[size] = b':';
         size + 1
-    }
-}
-
-/// The slice in a piece.
-fn piece_bytes(piece: HostPiece<'_>) -> &[u8]
-    ensures { result.now ≡ slice_text piece.entry }
-{
-    match piece {
-        HostPiece::Simple(text)
-        | HostPiece::Address(text)
-        | HostPiece::Kept(text)
-        | HostPiece::Decoded(text)
-        | HostPiece::Literal(text)
-        | HostPiece::DecodedLiteral(text)
-        | HostPiece::Bracketed(text) => text,
     }
 }
 

@@ -10,7 +10,7 @@ use Rattle.git_syntax.specs.Grammar.{Spells}
 use Rattle.git_refusals.specs.declared.reason.RefusalKind.TheVariants as kind
 use Rattle.git_refusals.specs.declared.refusal.Refusal.{Refusal}
 use Rattle.git_refusals.specs.Kinds.{kind_of}
-use Rattle.git_refusals.specs.Fronts.{shown_front}
+use Rattle.git_parts.specs.Fronts.{shown_front}
 use Rattle.git_refusals.specs.Promised.{IsOfKind}
 use Rattle.git_refusals.specs.Reasons.{Refused}
 use Rattle.git_refusals.proofs.Refusing.UnspelledLemmas.{refused_names, refused_unspelled}

@@ -8,7 +8,7 @@ ghost use Rattle.gix_url.specs.Flaws.{Flaw};
 
 use crate::error::Error;
 use crate::parse::copies::copy;
-use git_refusals::front::shown_front;
+use git_parts::front::shown_front;
 use git_refusals::reason::RefusalKind;
 use git_refusals::refusal::Refusal;
 use std::alloc::{AllocError, Global};

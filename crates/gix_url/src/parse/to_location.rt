@@ -13,12 +13,13 @@ ghost use Rattle.git_syntax.specs.Internal.SchemeRules.{AreRulesOf, scheme_named
 ghost use Rattle.git_syntax.specs.Schemes.{scheme_of};
 ghost use Rattle.git_syntax.specs.Internal.UrlPieces.{decoded_option, syntax_of};
 
+use crate::decoded::{decode, decoded_text};
 use crate::location::Url;
 use crate::parse::copies::copy;
 use crate::parse::from_fields::from_fields;
+use crate::parse::host::build_host;
 use crate::scheme::Scheme;
 use bstr::BString;
-use git_syntax::escape::{decode, decoded_text};
 use git_syntax::home::begins_at_home;
 use git_syntax::host::{HostPort, port_of};
 use git_syntax::rules::Rules;
@@ -66,7 +67,7 @@ fn host_text(alloc: Global, host: Option<HostPort<'_>>) -> Result<Option<String>
 {
     match host {
         None => Ok(None),
-        Some(host) => Ok(Some(host.build(alloc)?)),
+        Some(host) => Ok(Some(build_host(alloc, host)?)),
     }
 }
 

@@ -1,0 +1,3 @@
+-- The class of HTTP by its parts, and its conditions in order.
+pub mod WebClassLemmas
+pub mod ConditionLemmas

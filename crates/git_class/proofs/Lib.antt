@@ -1,0 +1,2 @@
+-- Lemmas by topic, lowest first.
+pub mod Classes

@@ -1,8 +1,0 @@
--- One byte more.
-use Rattle.git_location.specs.WebClass.{is_uri_byte}
-use Rattle.git_location.proofs.SettledClass.WebClassLemmas.{all_more}
-use Rattle.git_location.proofs.git.web.are_uri_bytes.Goals as goal
-
-pub loop-byte-preserved : goal.loop-byte-preserved
-loop-byte-preserved c =
-    all_more is_uri_byte c.args.text.now c.loop-byte.byte-index c.loop-byte.known c.is_uri_byte-known.result c.loop-byte-test.true c.is_uri_byte-known.ensures c.loop-byte.invariant

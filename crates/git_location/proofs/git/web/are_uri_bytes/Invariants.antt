@@ -1,8 +1,0 @@
-use Rattle.std.proofs.Common.{◌≡◌, ◌&&◌, drop}
-use Rattle.std.specs.List.{list_all}
-use Rattle.git_location.specs.WebClass.{is_uri_byte}
-use Rattle.git_location.proofs.git.web.are_uri_bytes.Given as goal
-
--- the answer for all bytes is that so far and that for the bytes that are left
-abbrev pub invariant-loop-byte : goal.invariant-loop-byte
-invariant-loop-byte l = (l.known && list_all is_uri_byte (drop l.byte-index l.text)) ≡ list_all is_uri_byte l.text

@@ -1,0 +1,3 @@
+-- Lemmas by topic, lowest first.
+pub mod Refusing
+pub mod Cutting

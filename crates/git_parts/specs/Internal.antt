@@ -1,0 +1,2 @@
+-- The pieces that are cut into parts.
+pub mod Pieces
