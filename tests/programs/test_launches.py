@@ -26,7 +26,7 @@ printf '#!/bin/sh\\necho "$0" "$@"\\n' >"out/$(basename "$PWD")" && chmod +x "ou
 # The number of calls of the command, to check and build, at the first call of `locations`.
 STEPS = 4
 # `locations` uses two of these crates, and not the library.
-LINES = "git_syntax: bstr\ngit_lines: git_syntax\ngix_url: bstr git_syntax\nlocations: git_lines\nexplain: gix_url\n"
+LINES = "git_syntax: bstr\ngit_location: git_syntax\ngix_url: bstr git_syntax\nlocations: git_location\nexplain: gix_url\n"
 CRATES = [it.partition(":")[0] for it in LINES.splitlines()]
 
 
@@ -131,5 +131,5 @@ def test_on_a_terminal(tree):
         # This is how the end of a terminal is reported.
         os.close(terminal)
     text = said.decode()
-    assert all(f"{at} of 3: proving {it}, 1 of 3 functions" in text for at, it in enumerate(("git_syntax", "git_lines", "locations"), 1))
+    assert all(f"{at} of 3: proving {it}, 1 of 3 functions" in text for at, it in enumerate(("git_syntax", "git_location", "locations"), 1))
     assert (started.wait(60), "\n" in text, text.endswith("\r\x1b[K")) == (0, False, True)

@@ -2,7 +2,7 @@
 -- into lines.
 use Rattle.std.specs.Prelude.{◌≡◌, ℕ, Bool, List, [], ◌∷◌, ◌++◌}
 use Rattle.git_syntax.specs.Bytes.{newline, FreeOf}
-use Rattle.git_lines.specs.Answers.{SplitsLines, IsAnswer, Answers}
+use Rattle.git_location.specs.Answers.{SplitsLines, IsAnswer, Answers}
 
 -- the bytes are one line and its end
 abbrev pub IsEndedLine : List ℕ → Type 0

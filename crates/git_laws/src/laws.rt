@@ -139,7 +139,7 @@ pub fn law_scheme_order()
 /// - `one_line`: the answer to a line without byte 10 is a text without it, and byte 10. The text of a settled
 ///   location has no byte 10 either, even if its path or its user has one: such a byte is written as an
 ///   escape, or the location isn't settled.
-/// - `line_for_line`: so the output of [`run`](git_lines::lines::run) splits at byte 10 into as many lines as
+/// - `line_for_line`: so the output of [`run`](git_location::lines::run) splits at byte 10 into as many lines as
 ///   its input, each the answer to the line at the same index. Answers can be matched to lines by position.
 /// - `one_split`: a text has only one split into lines, so every program that splits it gets these lines.
 pub fn law_lines()

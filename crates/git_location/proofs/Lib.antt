@@ -3,3 +3,5 @@ pub mod Texts
 pub mod Unique
 pub mod Writing
 pub mod SettledClass
+pub mod LineAnswers
+pub mod Examples

@@ -10,7 +10,6 @@ ghost use Rattle.git_syntax.specs.Internal.Masks.{AreMasksOf, is_common, mask_of
 
 pub(crate) mod bits;
 mod block;
-mod cuts;
 pub(crate) mod halves;
 pub(crate) mod marked;
 

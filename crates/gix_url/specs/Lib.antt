@@ -35,7 +35,7 @@ pub use Rattle.git_location.specs.Arguments
 pub use Rattle.git_class.specs.WebClass
 pub use Rattle.git_class.specs.WebConditions
 pub use Rattle.git_location.specs.UrlRef
-pub use Rattle.git_lines.specs.Answers
+pub use Rattle.git_location.specs.Answers
 pub use Rattle.git_reads.specs.Git
 pub use Rattle.git_reads.specs.Credentials
 pub use Rattle.git_reads.specs.Unread

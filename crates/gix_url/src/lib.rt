@@ -51,7 +51,7 @@ pub use components::{PathComponents, QueryText};
 pub use error::Error;
 pub use git_class::agreement::agrees_with_git;
 pub use git_class::web_conditions::{WebCondition, unmet_web_condition};
-pub use git_lines::lines;
+pub use git_location::lines;
 pub use git_location::argument::ArgumentSafety;
 pub use git_location::parse_error::ParseError;
 pub use git_location::url_ref::UrlRef;

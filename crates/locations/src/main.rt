@@ -4,7 +4,7 @@
 //! which is reported on standard error.
 #![tactic(auto)]
 
-use git_lines::lines;
+use git_location::lines;
 use std::process::ExitCode;
 
 fn main(rt: HostRuntime) -> ExitCode {

@@ -2,6 +2,7 @@
 //! examples of the documents.
 #![tactic(auto)]
 
+pub mod answering;
 #[cfg(test)]
 mod boxes;
 #[cfg(test)]

@@ -23,7 +23,7 @@ use Rattle.git_location.specs.Text.{keeps_host, open_host, canonical_host, host_
 use Rattle.git_location.specs.Settled.{HasMatch, IsRawPath, IsWeb, IsWebHost, IsNormalName, IsBareHost, IsBracketedHost, IsScpName, IsNormalAddress, IsSettledUrl, IsSettledWeb, IsSettledSecure, IsSettledGit, IsSettledHelperUrl, IsSettledBy, IsSettled}
 use Rattle.git_location.specs.Settled.IsWebHost.{literal, literal_colon, named, named_colon}
 use Rattle.git_location.specs.Internal.SettledPieces.{IsWrittenAsUrl}
-use Rattle.git_lines.specs.Answers.{ended_lines, last_line, fault_name, error_name, refusal_name, reported_line, IsReported, IsAnswer, AnswersEach}
+use Rattle.git_location.specs.Answers.{ended_lines, last_line, fault_name, error_name, refusal_name, reported_line, IsReported, IsAnswer, AnswersEach}
 use Rattle.git_laws.specs.AnswerLaws.{IsEndedLine, OneLine, AreAnswered, LineForLine}
 use Rattle.git_syntax.proofs.Texts.CutLemmas.{free-append, free-cons, free_head_tail, free_of_all, free_parts, helper_name_free, scheme_text_free}
 use Rattle.git_syntax.proofs.Texts.EscapeLemmas.{encode_free, lacks_escaped_percents, no_line}

@@ -3,7 +3,7 @@ use Rattle.std.proofs.Common.{◌≡◌, ℕ, List, [], ◌∷◌, ◌++◌, app
 use Rattle.std.proofs.lemmas.Bool.Decides.{nat_tests}
 use Rattle.std.proofs.lemmas.List.Elements.{All-head, All-tail}
 use Rattle.git_syntax.specs.Bytes.{newline, FreeOf}
-use Rattle.git_lines.specs.Answers.{ended_lines}
+use Rattle.git_location.specs.Answers.{ended_lines}
 use Rattle.git_laws.specs.AnswerLaws.{OneLineSplit}
 use Rattle.git_syntax.proofs.Texts.CutLemmas.{cut_unique, not_free}
 

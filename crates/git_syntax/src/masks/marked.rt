@@ -2,14 +2,15 @@
 //!
 //! The functions are inlined, so the masks of a piece cost nothing if they aren't used.
 
-ghost use Rattle.std.specs.Prelude.{◌≡◌, ◌↔◌, ◌≤◌, ◌++◌, ◌∷◌, ◌⊎◌, [], ℕ, IfSome, IsTrue, List, MatchOption, length, option_map, true};
+ghost use Rattle.std.specs.Prelude.{◌≡◌, ◌↔◌, ◌≤◌, ◌++◌, ◌∷◌, ◌⊎◌, [], ℕ, IfSome, IsTrue, List, MatchOption, drop, length, option_map, take, true};
 ghost use Rattle.std.specs.List.{list_all};
 ghost use Rattle.git_syntax.specs.Bytes.{FreeOf, at_sign, begins_with, colon, slash};
 ghost use Rattle.git_syntax.specs.Internal.Cuts.{CutsAt, CutsAtLast};
 ghost use Rattle.git_syntax.specs.Internal.HostPieces.{IsSimpleHost, is_simple_byte};
 ghost use Rattle.git_syntax.specs.Internal.Masks.{IsMarked, is_common, texts_of};
 
-use super::{Masks, cuts, masks_of};
+use super::bits::{all, first, last, none};
+use super::{Masks, masks_of};
 use crate::classify::after_slashes;
 
 /// A text with its masks.
@@ -44,8 +45,8 @@ impl<'a> Marked<'a> {
         ensures cut { CutsAt colon self.now.text.now (option_map texts_of result) }
         ensures masks { IfSome result (λ p. IsMarked p.0 × IsMarked p.1) }
     {
-        let (front, rest) = cuts::cut_at_colon(self.text, &self.masks)?;
-        Some((self.front(front), self.rest(rest)))
+        let at = first(self.masks.colon)?;
+        Some((self.front(at), self.rest(at + 1)))
     }
 
     /// Returns the texts before and after the last `@`: of `a@b@h` `a@b` and `h`.
@@ -55,8 +56,8 @@ impl<'a> Marked<'a> {
         ensures cut { CutsAtLast at_sign self.now.text.now (option_map texts_of result) }
         ensures masks { IfSome result (λ p. IsMarked p.0 × IsMarked p.1) }
     {
-        let (front, rest) = cuts::cut_at_last_at(self.text, &self.masks)?;
-        Some((self.front(front), self.rest(rest)))
+        let at = last(self.masks.at)?;
+        Some((self.front(at), self.rest(at + 1)))
     }
 
     /// Returns the text after two slashes at the front: `h/p` for `//h/p`, and `None` for `/h`.
@@ -68,8 +69,8 @@ impl<'a> Marked<'a> {
             (λ suffix. self.now.text.now ≡ slash ∷ (slash ∷ suffix.text.now)) }
         ensures masks { IfSome result (λ suffix. IsMarked suffix) }
     {
-        let suffix = after_slashes(self.text)?;
-        Some(self.rest(suffix))
+        after_slashes(self.text)?;
+        Some(self.rest(2))
     }
 
     /// Returns the front up to the first `/`, and the rest: of `h/p` `h` and `/p`.
@@ -81,8 +82,10 @@ impl<'a> Marked<'a> {
         ensures rest { (result.1.text.now ≡ []) ⊎ (begins_with slash result.1.text.now ≡ true) }
         ensures masks { IsMarked result.0 × IsMarked result.1 }
     {
-        let (front, rest) = cuts::cut_at_slash(self.text, &self.masks);
-        (self.front(front), self.rest(rest))
+        match first(self.masks.slash) {
+            Some(at) => (self.front(at), self.rest(at)),
+            None => (*self, self.rest(self.text.len())),
+        }
     }
 
     /// Whether no byte is `:`.
@@ -91,7 +94,7 @@ impl<'a> Marked<'a> {
         requires { IsMarked self.now }
         ensures { IsTrue result ↔ FreeOf colon self.now.text.now }
     {
-        cuts::lacks_colons(self.text, &self.masks)
+        none(self.masks.colon)
     }
 
     /// Whether no byte is `/`.
@@ -100,7 +103,7 @@ impl<'a> Marked<'a> {
         requires { IsMarked self.now }
         ensures { IsTrue result ↔ FreeOf slash self.now.text.now }
     {
-        cuts::lacks_slashes(self.text, &self.masks)
+        none(self.masks.slash)
     }
 
     /// Whether each byte is a lower-case letter, a digit, `-` or `.`, as in `a-1.b` but not in `a_b`.
@@ -109,7 +112,7 @@ impl<'a> Marked<'a> {
         requires { IsMarked self.now }
         ensures { IsTrue result ↔ (list_all is_simple_byte self.now.text.now ≡ true) }
     {
-        cuts::are_simple_bytes(self.text, &self.masks)
+        all(self.masks.host, self.text.len())
     }
 
     /// Whether the text is a simple host.
@@ -121,31 +124,31 @@ impl<'a> Marked<'a> {
         !self.text.is_empty() && self.are_simple_bytes()
     }
 
-    /// A front of the text, with its masks.
+    /// The bytes before the offset, with their masks.
     #[inline(always)]
-    fn front(&self, front: &'a [u8]) -> Marked<'a>
+    fn front(&self, at: usize) -> Marked<'a>
         requires masks { IsMarked self.now }
-        requires front { (rest : List ℕ) × (self.now.text.now ≡ front.now ++ rest) }
-        ensures text { result.text.now ≡ front.now }
+        requires within { at ≤ length self.now.text.now }
+        ensures text { result.text.now ≡ take at self.now.text.now }
         ensures masks { IsMarked result }
     {
         Marked {
-            text: front,
-            masks: self.masks.front(front.len()),
+            text: self.text.split_at(at).0,
+            masks: self.masks.front(at),
         }
     }
 
-    /// A rest of the text, with its masks.
+    /// The bytes from the offset on, with their masks.
     #[inline(always)]
-    fn rest(&self, rest: &'a [u8]) -> Marked<'a>
+    fn rest(&self, at: usize) -> Marked<'a>
         requires masks { IsMarked self.now }
-        requires rest { (front : List ℕ) × (self.now.text.now ≡ front ++ rest.now) }
-        ensures text { result.text.now ≡ rest.now }
+        requires within { at ≤ length self.now.text.now }
+        ensures text { result.text.now ≡ drop at self.now.text.now }
         ensures masks { IsMarked result }
     {
         Marked {
-            text: rest,
-            masks: self.masks.rest(self.text.len() - rest.len()),
+            text: self.text.split_at(at).1,
+            masks: self.masks.rest(at),
         }
     }
 }

@@ -1,3 +1,0 @@
--- Lemmas by topic, lowest first.
-pub mod LineAnswers
-pub mod Examples

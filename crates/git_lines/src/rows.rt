@@ -1,9 +1,0 @@
-//! Examples of the definitions of failed runs.
-
-ghost use Rattle.git_lines.specs.Examples.RunRows.{ReadRow, UnwrittenRow};
-
-/// The reader and the writer after failed runs.
-fn law_runs()
-    ensures unwritten { UnwrittenRow }
-    ensures read { ReadRow }
-{}
