@@ -28,10 +28,10 @@ These can't be given together:
 Exit status: 0 if nothing was found, 1 if something was, 2 for wrong arguments, a run that was cut short or, with --ssh, a line that is not of Secure Shell. What can be found: a danger, a location that is not settled, a refused line, a text that Git is not known to read the same (git-differs), and with --config a transport that Git does not use (policy).";
 
 /// The version of the library and the program, as in the last title of the changes.
-pub const VERSION: &str = "0.40.1+23";
+pub const VERSION: &str = "0.40.1+24";
 /// The output of `--version`: that version, the version of the Rust crate whose behaviour the library has, and where
 /// the commit is recorded.
-const VERSIONS: &str = "0.40.1+23 (gix-url 0.40.1)
+const VERSIONS: &str = "0.40.1+24 (gix-url 0.40.1)
 The file receipt of a bundle (share/gix_url/receipt) or of a Debian package has the commit and the toolchain.";
 
 /// Options that exclude each other: each is a layout of its own.

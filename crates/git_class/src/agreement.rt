@@ -11,6 +11,7 @@ ghost use Rattle.git_syntax.specs.Bytes.{FreeOf, begins_with, is_option_like, pe
 ghost use Rattle.git_class.specs.GitClass.{AgreesByTransport, AgreesWithGit, HasNoOption, HasPlainParts, IsBracketedOfGit, IsHostOfGit, IsPlainPart, IsRsync, SuitsTransport, is_contested, is_tilde_second};
 
 use crate::web::agrees_over_web;
+use git_location::settled::fields::has_empty_user;
 use git_location::url_ref::UrlRef;
 use git_syntax::bytes::{is_free_of, starts_with_byte};
 use git_syntax::escape::{PASSWORD, USER};
@@ -80,7 +81,7 @@ fn suits_transport(url: &UrlRef<'_>) -> bool
     ensures { IsTrue result ↔ SuitsTransport url.now.scheme url.now }
 {
     match url.scheme {
-        SchemeRef::Ssh => !is_tilde_second(url.path) && !is_rsync(url) && !url.has_empty_user(),
+        SchemeRef::Ssh => !is_tilde_second(url.path) && !is_rsync(url) && !has_empty_user(url),
         SchemeRef::Git => url.user.is_none() && is_free_of(url.path, b'\n'),
         SchemeRef::File => url.host.is_none() && is_plain_file(url),
         SchemeRef::Http

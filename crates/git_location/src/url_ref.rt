@@ -1,8 +1,6 @@
 //! The type of borrowed locations, [`UrlRef`]. In contracts it is the same value of eight fields as a
 //! [`Url`].
 
-ghost use Rattle.std.specs.Prelude.{◌≡◌, ◌↔◌, [], IsTrue, Some};
-
 use git_syntax::scheme::SchemeRef;
 use std::marker::Model;
 
@@ -57,16 +55,4 @@ impl<'a> Model for UrlRef<'a> {
     ghost use Rattle.git_location.specs.UrlRef.{borrowed_location};
 
     ghost view = { borrowed_location };
-}
-
-impl UrlRef<'_> {
-    /// Whether the location has a user, and it is empty.
-    pub fn has_empty_user(&self) -> bool
-        ensures { IsTrue result ↔ (self.now.user ≡ Some []) }
-    {
-        match self.user {
-            None => false,
-            Some(user) => user.is_empty(),
-        }
-    }
 }

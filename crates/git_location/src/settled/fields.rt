@@ -1,6 +1,6 @@
 //! Tests of single fields of a location.
 
-ghost use Rattle.std.specs.Prelude.{◌≡◌, ◌↔◌, IsTrue, codes};
+ghost use Rattle.std.specs.Prelude.{◌≡◌, ◌↔◌, [], IsTrue, Some, codes};
 ghost use Rattle.git_syntax.specs.Bytes.{Holds};
 ghost use Rattle.git_syntax.specs.Hosts.{normal_host};
 ghost use Rattle.git_location.specs.Settled.{HasAtMostHost, HasMatch, IsFlaggedPath, IsNormalAddress, IsNormalName, IsOpenName, begins_with_slashes};
@@ -33,6 +33,16 @@ pub(crate) fn has_match(url: &UrlRef<'_>) -> bool
     match url.spelling {
         None => false,
         Some(spelling) => decodes_to(spelling, url.path),
+    }
+}
+
+/// Whether the location has a user, and it is empty.
+pub fn has_empty_user(url: &UrlRef<'_>) -> bool
+    ensures { IsTrue result ↔ (url.now.user ≡ Some []) }
+{
+    match url.user {
+        None => false,
+        Some(user) => user.is_empty(),
     }
 }
 

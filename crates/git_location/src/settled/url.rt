@@ -8,7 +8,7 @@ ghost use Rattle.git_location.specs.Internal.Pieces.{AreOwn};
 ghost use Rattle.git_location.specs.Settled.{HasBareHost, HasBracketedHost, HasCredentials, HasFairSpelling, HasUrlPath, HasWebHost, IsBracketedHost, IsFairSpelling, IsHomeless, IsHosted, IsRaw, IsRawPath, IsRootedOrEmpty, IsSettledGit, IsSettledHelperUrl, IsSettledRaw, IsSettledSecure, IsSettledUrl, IsSettledWeb, IsTransportPath, IsWeb, first_byte};
 ghost use Rattle.git_location.specs.Internal.SettledPieces.{HasRawPath, IsSettledBesidePath, IsWrittenAsUrl};
 
-use crate::settled::fields::has_match;
+use crate::settled::fields::{has_empty_user, has_match};
 use crate::settled::host::{is_bare_host, is_bracketed_host, is_web_host};
 use crate::settled::length_check::has_fitting_text;
 use crate::url_ref::UrlRef;
@@ -202,7 +202,7 @@ fn has_credentials(url: &UrlRef<'_>) -> bool
     ensures { IsTrue result ↔ HasCredentials url.now }
 {
     match url.password {
-        None => !url.has_empty_user(),
+        None => !has_empty_user(url),
         Some(password) => !password.is_empty() && url.user.is_some(),
     }
 }
