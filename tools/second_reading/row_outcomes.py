@@ -185,7 +185,7 @@ CALLS = {
     "Url::is_settled": over_url(settled_class.settled),
     "UrlRef::is_settled": over_url(settled_class.settled),
     "Url::agrees_with_git": over_url(git_class.agrees_with_git),
-    "UrlRef::agrees_with_git": over_url(git_class.agrees_with_git),
+    "crate::agrees_with_git": over_url(git_class.agrees_with_git),
     "Url::reread": over_url(reread),
     "Url::from_parts": lambda row: from_parts(row["record"]),
     "Url:fmt": over_url(display),
