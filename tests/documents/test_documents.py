@@ -17,7 +17,7 @@ import pytest
 import reference
 from reference_names import CLAUSE
 from contracts import contracts
-from rt_api import LAYERS, ROOT, lines_of_crates, outdated, read, stored
+from rt_api import LAYERS, LIBRARY, ROOT, lines_of_crates, outdated, read, stands_on, stored
 from second_reading import explain_tables, stored_run
 
 pytestmark = pytest.mark.quick
@@ -114,6 +114,12 @@ def test_no_word_has_a_better_one():
 def test_each_term_is_used():
     terms, others = re.findall(r"(?m)^\| ([a-z][\w ]*) \|", read(GLOSSARY)), " ".join(read(it) for it in DOCUMENTS if it != GLOSSARY)
     assert len(terms) <= 15 and not [it for it in terms if it not in others]
+
+
+def test_a_users_crates_have_the_lines_of_this_repository():
+    """The lines of FIRST_HOUR for a file `crates.txt` are those of the library and its layers."""
+    wanted = [line for name, (line, _) in lines_of_crates().items() if name in stands_on(LIBRARY)]
+    assert "\n".join(["```text", *wanted, "my_crate: gix_url"]) in read("docs/FIRST_HOUR.md")
 
 
 def test_each_crate_is_in_the_table_of_layers():
