@@ -12,8 +12,8 @@ fn is_encrypted(scheme: SchemeRef<'_>) -> bool {
     matches!(scheme, SchemeRef::Ssh | SchemeRef::Https)
 }
 
-/// Writes the location of a repository on a host, without a copy of either.
-fn write_remote<'a>(out: &mut Vec<u8>, host: &'a str, path: &'a str) -> Result<(), WriteError> {
+/// Writes the location of a repository on a host, without a copy of either, if Git reads the same place in it.
+fn write_remote<'a>(out: &mut Vec<u8>, host: &'a str, path: &'a str) -> Result<bool, WriteError> {
     let remote = UrlRef {
         scheme: SchemeRef::Https,
         user: None,
@@ -24,7 +24,11 @@ fn write_remote<'a>(out: &mut Vec<u8>, host: &'a str, path: &'a str) -> Result<(
         path: path.as_bytes(),
         spelling: None,
     };
-    remote.write_to(out) // `https://host/my%20repo` of `host` and `/my repo`
+    if !agrees_with_git(&remote) {
+        return Ok(false); // of `github.com/@evil.com`, which no text names
+    }
+    remote.write_to(out)?; // `https://host/my%20repo` of `host` and `/my repo`
+    Ok(true)
 }
 
 /// Whether the location is settled without its password.
@@ -57,9 +61,8 @@ fn port_of(scheme: SchemeRef<'_>) -> u16 {
     scheme.default_port().unwrap_or(0) // 9418 of `SchemeRef::Git`, 0 of `SchemeRef::File`
 }
 
-fn is_same_service(one: &UrlRef<'_>, other: &UrlRef<'_>) -> bool {
-    // `https://host/repo` and `https://host:443/repo` are
-    one.host == other.host && one.port_or_default() == other.port_or_default()
+fn has_usual_port(url: &UrlRef<'_>) -> bool {
+    url.port_or_default() == url.scheme.default_port() // of `https://host/repo` and `https://host:443/repo`
 }
 
 fn names_a_repository(url: &UrlRef<'_>) -> bool {
@@ -104,7 +107,7 @@ fn spelled<'a>(url: &UrlRef<'a>) -> BStr<'a> {
     url.original_path() // `/my%20repo` of `https://host/my%20repo`, whose path is `/my repo`
 }
 
-/// Writes the location if others read it as the same.
+/// Writes the location if this library reads it as the same.
 fn write_settled(out: &mut Vec<u8>, url: &UrlRef<'_>) -> Result<bool, WriteError> {
     if !url.is_settled() {
         return Ok(false);

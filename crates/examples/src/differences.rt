@@ -4,9 +4,9 @@ use bstr::BStr;
 use gix_url::{Error, Url, UrlFault, expand_path};
 use std::alloc::Global;
 
-fn host_named(alloc: Global, text: &str) -> Result<Option<String>, Error> {
+fn port_named(alloc: Global, text: &str) -> Result<Option<u16>, Error> {
     let url = Url::from_text(alloc, text)?;
-    Ok(url.host)
+    Ok(url.port)
 }
 
 fn asks_for_a_host(alloc: Global, text: &str) -> bool {

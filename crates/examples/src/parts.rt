@@ -18,13 +18,12 @@ fn asks_for_password(url: &Url) -> bool {
     url.user().is_some() && url.password().is_none() // of `https://user@host/repo`
 }
 
-fn is_here(url: &Url) -> bool {
-    url.host() == Some("::1") // of `ssh://[::1]/repo`, but not of `git://[::1]/repo`
+fn is_on_github(url: &Url) -> bool {
+    url.is_unambiguous() && url.host() == Some("github.com") // not of `ssh://github.com/@[evil.com]/a`
 }
 
-fn is_same_service(one: &Url, other: &Url) -> bool {
-    // `https://host/repo` and `https://host:443/repo` are
-    one.host() == other.host() && one.port_or_default() == other.port_or_default()
+fn has_usual_port(url: &Url) -> bool {
+    url.port_or_default() == url.scheme.default_port() // of `https://host/repo` and `https://host:443/repo`
 }
 
 fn names_a_repository(url: &Url) -> bool {

@@ -5,6 +5,7 @@ use git_rules::config::{self, Entry};
 use git_rules::rewrite::host::{is_same_host, names_same_host, texts_name_same_host};
 use git_rules::rewrite::{RewriteError, Rewrites};
 use gix_url::UrlRef;
+use gix_url::unambiguous::is_unambiguous;
 use std::alloc::{AllocError, Global};
 
 /// The text that Git fetches from, by a configuration that `git config --list -z` wrote.
@@ -51,23 +52,28 @@ fn pushed_to(
     }
 }
 
-/// Whether a rule moves a location to a host that the user hasn't named.
-fn is_moved(before: &UrlRef<'_>, after: &UrlRef<'_>) -> bool {
-    !names_same_host(before, after)
+/// Whether a rule may move a location to a host that the user hasn't named.
+fn may_be_moved(before: &UrlRef<'_>, after: &UrlRef<'_>) -> bool {
+    !(is_unambiguous(before) && is_unambiguous(after) && names_same_host(before, after))
 }
 
-/// Whether both texts name the same host; none where one of them isn't read, or is longer than 1,024 bytes.
+/// Whether both texts name the same host for all readers; none where one of them isn't read, or not by all
+/// readers alike, or is longer than 1,024 bytes.
 fn keeps_host(before: &[u8], after: &[u8]) -> Option<bool> {
     let mut buffer = [0u8; 1024];
     let mut other = [0u8; 1024];
+    if !is_unambiguous(&UrlRef::parse_in(before, &mut buffer).ok()?)
+        || !is_unambiguous(&UrlRef::parse_in(after, &mut other).ok()?)
+    {
+        return None;
+    }
     texts_name_same_host(before, &mut buffer, after, &mut other).ok()
 }
 
-/// Whether a host is one of those that a program connects to.
-fn is_known(host: &str, known: &[&str]) -> bool {
-    known
-        .iter()
-        .any(|name| is_same_host(host.as_bytes(), name.as_bytes()))
+/// Whether all readers connect to one of the known hosts.
+fn is_known(url: &UrlRef<'_>, known: &[&str]) -> bool {
+    let host = url.host.unwrap_or("").as_bytes();
+    is_unambiguous(url) && known.iter().any(|name| is_same_host(host, name.as_bytes()))
 }
 
 /// The front that a rule takes off a text, if one wins.

@@ -16,16 +16,20 @@ fn fits(url: &Url, capacity: u128) -> bool {
     url.text_len().is_ok_and(|length| length <= capacity)
 }
 
-/// A text in the form that this library writes.
-fn rewritten(alloc: Global, text: &str) -> Result<BString, Error> {
-    Url::from_text(alloc, text)?.to_bstring(alloc) // `ssh://h/p` of `ssh://H:/p`
+/// A text in the form that this library writes, if all readers find the same place in it.
+fn rewritten(alloc: Global, text: &str) -> Result<Option<BString>, Error> {
+    let url = Url::from_text(alloc, text)?;
+    if !url.is_unambiguous() {
+        return Ok(None);
+    }
+    Ok(Some(url.to_bstring(alloc)?)) // `ssh://h/p` of `ssh://H:/p`
 }
 
 fn spelled(url: &Url) -> BStr<'_> {
     url.original_path() // `/my%20repo` of `https://host/my%20repo`, whose path is `/my repo`
 }
 
-/// The text to store for a location, if others read it as the same.
+/// The text to store for a location, if this library reads it as the same.
 fn to_store(alloc: Global, url: &Url) -> Result<Option<BString>, Error> {
     if !url.is_settled() {
         return Ok(None);

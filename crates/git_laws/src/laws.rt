@@ -22,7 +22,7 @@ ghost use Rattle.git_laws.specs.Safeguards.{SettledWithoutPassword, SettledWitho
 ///   location of its input.
 /// - `settled_again`: the text of a settled location spells a location with the same public fields, which is
 ///   settled and has that text. So programs that rewrite remotes read back the fields that they wrote. (The
-///   premise `IsValue` holds of each `Url`: `law_value`.)
+///   premise `IsValue` holds of each `Url`: `law_value`.) Git may read other fields in that text.
 /// - `read_again`: any reader that implements the grammar reads that location again in the text.
 /// - `text_decides`: two settled locations whose texts are equal have equal public fields. So credential
 ///   matchers may compare texts.
@@ -34,11 +34,12 @@ ghost use Rattle.git_laws.specs.Safeguards.{SettledWithoutPassword, SettledWitho
 /// A law is a call with an empty body. A proof cites it after the call:
 ///
 /// ```
-/// /// Whether two remotes are written alike. Then they have the same public fields.
+/// /// Whether two remotes are written alike, in texts that all readers read alike. Then they have the same public
+/// /// fields.
 /// fn are_alike(alloc: Global, one: &Url, other: &Url) -> Result<bool, Error>
 ///     ensures { IfOk result (λ alike. alike ≡ true → fields one.now ≡ fields other.now) }
 /// {
-///     if !one.is_settled() || !other.is_settled() {
+///     if !one.is_unambiguous() || !other.is_unambiguous() {
 ///         return Ok(false);
 ///     }
 ///     law_value(one);

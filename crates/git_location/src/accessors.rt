@@ -12,9 +12,8 @@ impl UrlRef<'_> {
     /// neither.
     ///
     /// ```
-    /// fn is_same_service(one: &UrlRef<'_>, other: &UrlRef<'_>) -> bool {
-    ///     // `https://host/repo` and `https://host:443/repo` are
-    ///     one.host == other.host && one.port_or_default() == other.port_or_default()
+    /// fn has_usual_port(url: &UrlRef<'_>) -> bool {
+    ///     url.port_or_default() == url.scheme.default_port() // of `https://host/repo` and `https://host:443/repo`
     /// }
     /// ```
     #[inline(always)]

@@ -28,7 +28,7 @@ impl UrlRef<'_> {
     /// Whether the location is of the settled class, like [`Url::is_settled`].
     ///
     /// ```
-    /// /// Writes the location if others read it as the same.
+    /// /// Writes the location if this library reads it as the same.
     /// fn write_settled(out: &mut Vec<u8>, url: &UrlRef<'_>) -> Result<bool, WriteError> {
     ///     if !url.is_settled() {
     ///         return Ok(false);

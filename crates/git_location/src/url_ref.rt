@@ -12,8 +12,8 @@ use std::marker::Model;
 /// the field `password`, like that of `Url`; there is no `Debug`.
 ///
 /// ```
-/// /// Writes the location of a repository on a host, without a copy of either.
-/// fn write_remote(out: &mut Vec<u8>, host: &str, path: &str) -> Result<(), WriteError> {
+/// /// Writes the location of a repository on a host, without a copy of either, if Git reads the same place in it.
+/// fn write_remote(out: &mut Vec<u8>, host: &str, path: &str) -> Result<bool, WriteError> {
 ///     let remote = UrlRef {
 ///         scheme: SchemeRef::Https,
 ///         user: None,
@@ -24,7 +24,11 @@ use std::marker::Model;
 ///         path: path.as_bytes(),
 ///         spelling: None,
 ///     };
-///     remote.write_to(out) // `https://host/my%20repo` of `host` and `/my repo`
+///     if !agrees_with_git(&remote) {
+///         return Ok(false); // of `github.com/@evil.com`, which no text names
+///     }
+///     remote.write_to(out)?; // `https://host/my%20repo` of `host` and `/my repo`
+///     Ok(true)
 /// }
 /// ```
 #[derive(Drop)]

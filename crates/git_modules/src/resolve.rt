@@ -78,8 +78,8 @@ pub fn is_relative(url: &[u8]) -> bool
 /// The time is at most proportional to the number of `../` times the length of the parent.
 ///
 /// ```
-/// /// Whether a submodule is fetched from the host of the superproject; none where Git stores no URL, or a
-/// /// URL isn't read, or is longer than 1,024 bytes.
+/// /// Whether all readers fetch a submodule from the host of the superproject; none where Git stores no URL, or
+/// /// a URL isn't read, or is longer than 1,024 bytes.
 /// fn stays_on_host(alloc: Global, parent: &[u8], url: &[u8]) -> Result<Option<bool>, AllocError> {
 ///     let Ok(resolved) = resolve(parent, url) else {
 ///         return Ok(None); // of `a`, `../../b`
@@ -87,7 +87,14 @@ pub fn is_relative(url: &[u8]) -> bool
 ///     let text = resolved.to_bstring(alloc)?; // `https://h/b` of `https://h/a`, `../b`
 ///     let mut buffer = [0u8; 1024];
 ///     let mut other = [0u8; 1024];
-///     Ok(texts_name_same_host(parent, &mut buffer, text.as_bytes(), &mut other).ok())
+///     let Ok(from) = UrlRef::parse_in(parent, &mut buffer) else {
+///         return Ok(None);
+///     };
+///     let Ok(to) = UrlRef::parse_in(text.as_bytes(), &mut other) else {
+///         return Ok(None);
+///     };
+///     let alike = is_unambiguous(&from) && is_unambiguous(&to);
+///     Ok(Some(alike && names_same_host(&from, &to)))
 /// }
 /// ```
 ///

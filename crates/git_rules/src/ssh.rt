@@ -219,9 +219,13 @@ impl Service {
 /// command.
 ///
 /// ```
-/// /// The words with which Git fetches by OpenSSH.
-/// fn fetch_words(alloc: Global, url: &UrlRef<'_>) -> Result<Vec<BString>, SshError> {
-///     ssh_words(alloc, url, Service::UploadPack, SshVariant::Ssh, ProtocolVersion::V2)
+/// /// The words with which Git fetches by OpenSSH, if it reads the same place in the location's text.
+/// fn fetch_words(alloc: Global, url: &UrlRef<'_>) -> Result<Option<Vec<BString>>, SshError> {
+///     if !agrees_with_git(url) {
+///         return Ok(None); // of `ssh://github.com/@[evil.com]/a`, for which Git connects to `evil.com`
+///     }
+///     let (service, variant) = (Service::UploadPack, SshVariant::Ssh);
+///     Ok(Some(ssh_words(alloc, url, service, variant, ProtocolVersion::V2)?))
 /// }
 /// ```
 ///
@@ -251,10 +255,10 @@ pub fn ssh_words(
 /// service's own program and any address family.
 ///
 /// ```
-/// /// The port and the host that are connected to, and whether a user is named.
-/// fn reached<'a>(url: &UrlRef<'a>) -> Result<(Option<u16>, &'a str, bool), SshRefusal> {
+/// /// The port that is connected to, and whether a user is named.
+/// fn reached(url: &UrlRef<'_>) -> Result<(Option<u16>, bool), SshRefusal> {
 ///     let command = ssh_command(url, Service::UploadPack, SshVariant::Ssh, ProtocolVersion::V2)?;
-///     Ok((command.port, command.host, command.user.is_some()))
+///     Ok((command.port, command.user.is_some()))
 /// }
 /// ```
 ///

@@ -79,8 +79,8 @@ impl Url {
     /// command by [`Url::host_as_argument`].
     ///
     /// ```
-    /// fn is_here(url: &Url) -> bool {
-    ///     url.host() == Some("::1") // of `ssh://[::1]/repo`, but not of `git://[::1]/repo`
+    /// fn is_on_github(url: &Url) -> bool {
+    ///     url.is_unambiguous() && url.host() == Some("github.com") // not of `ssh://github.com/@[evil.com]/a`
     /// }
     /// ```
     pub fn host(&self) -> Option<&str>
@@ -94,9 +94,8 @@ impl Url {
     /// It may be 0: reading refuses that port only for HTTP.
     ///
     /// ```
-    /// fn is_same_service(one: &Url, other: &Url) -> bool {
-    ///     // `https://host/repo` and `https://host:443/repo` are
-    ///     one.host() == other.host() && one.port_or_default() == other.port_or_default()
+    /// fn has_usual_port(url: &Url) -> bool {
+    ///     url.port_or_default() == url.scheme.default_port() // of `https://host/repo` and `https://host:443/repo`
     /// }
     /// ```
     pub fn port_or_default(&self) -> Option<u16>

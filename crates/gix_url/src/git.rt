@@ -2,7 +2,7 @@
 
 ghost use Rattle.std.specs.Prelude.{◌↔◌, IsTrue, IsNone, IfSome};
 ghost use Rattle.git_class.specs.GitClass.{AgreesWithGit};
-ghost use Rattle.git_location.specs.Settled.{IsWeb};
+ghost use Rattle.git_location.specs.Settled.{IsSettled, IsWeb};
 ghost use Rattle.git_class.specs.WebClass.{AgreesOverWeb};
 ghost use Rattle.git_class.specs.WebConditions.{IsFirstUnmet};
 ghost use Rattle.git_readers.specs.Conditions as conditions;
@@ -69,7 +69,7 @@ impl Url {
     /// Whether every reader of a family is known to find the same fields in the text of the location.
     /// Allocates nothing.
     ///
-    /// If the result is `true`, Git agrees as well, and every reader of a family (`LeavesPlain`) finds the
+    /// If the result is `true`, the location is settled, Git agrees as well, and every reader of a family (`LeavesPlain`) finds the
     /// location's own scheme, user, password, host, port and path in its text
     /// ([`law_unambiguous`](crate::laws::law_unambiguous)): whichever `@` or `:` it cuts at, whether `?`, `#`,
     /// `;` or `\` end its authority, and whatever it decodes. Pass on the text that [`Url::to_bstring`] writes.
@@ -83,7 +83,8 @@ impl Url {
     /// }
     /// ```
     pub fn is_unambiguous(&self) -> bool
-        ensures { IsTrue result ↔ IsUnambiguous self.now }
+        ensures decided { IsTrue result ↔ IsUnambiguous self.now }
+        ensures settled { IsTrue result → IsSettled self.now }
     {
         is_unambiguous(&self.as_ref())
     }

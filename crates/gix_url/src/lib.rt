@@ -1,19 +1,21 @@
 //! Parses, writes and compares Git locations: remote helpers, URLs, the scp form and local paths.
 //!
 //! [`parse::parse`] reads bytes and [`Url::from_text`] text; [`Url::write_to`] and [`Url::to_bstring`] write a
-//! location. The text of a location that [`Url::is_settled`] accepts is read as the same public fields and
-//! written the same again. [`Url::user_as_argument`] and its like report which fields a command may receive.
+//! location. The text of a location that [`Url::is_settled`] accepts is read by this library as the same public
+//! fields and written the same again. Git and other programs may read it as another place: before a host is
+//! trusted or a location passed on, ask [`Url::is_unambiguous`]. [`Url::user_as_argument`] and its like report
+//! which fields a command may receive.
 //!
 //! This crate has the types that own bytes. Everything that only reads a location is defined on [`UrlRef`], in
 //! the crate `git_location`, and the reader of texts in `git_syntax`; this crate re-exports all that is public.
 //! How often a function allocates, and how long it takes, is tested, not proved.
 //!
 //! ```
-//! /// The host that a text names, if the location can be written and read again.
+//! /// The host that a text names, if Git and other readers are known to find it in the text that is written.
 //! fn host_of(alloc: Global, text: &str) -> Result<Option<String>, Error> {
 //!     let url = Url::from_text(alloc, text)?;
-//!     if !url.is_settled() {
-//!         return Ok(None);
+//!     if !url.is_unambiguous() {
+//!         return Ok(None); // of `ssh://github.com/@[evil.com]/a`, for which Git connects to `evil.com`
 //!     }
 //!     Ok(url.host)
 //! }

@@ -23,10 +23,10 @@ impl Url {
     /// Allocates once for the text, and then like [`parse`].
     ///
     /// ```
-    /// /// Whether others who read the text of the location reach the same host.
-    /// fn names_the_same_host(alloc: Global, url: &Url) -> Result<bool, Error> {
+    /// /// Whether this library reads the path of the location again in its text.
+    /// fn keeps_path(alloc: Global, url: &Url) -> Result<bool, Error> {
     ///     let read = url.reread(alloc)?;
-    ///     Ok(read.host.as_deref() == url.host.as_deref())
+    ///     Ok(read.path.as_bytes() == url.path.as_bytes())
     /// }
     /// ```
     ///

@@ -14,13 +14,17 @@ impl Url {
     /// location of `git` with the host `]` and the path `/p` is not settled, though its text is read as the
     /// same fields.
     ///
+    /// This is a promise of this library's own reading, and none of Git's: `ssh://github.com/@[evil.com]/a` is
+    /// settled with the host `github.com`, and Git connects to `evil.com`. Before a location is passed on, ask
+    /// [`Url::is_unambiguous`], or for Git alone [`Url::agrees_with_git`].
+    ///
     /// Most locations that are read are settled. Exceptions are `[host]::path`, whose text `host::path` names
     /// a remote helper, and locations that a program changed so that their text names another place.
     ///
     /// The clause `value` is the premise of `law_separation` and of the other laws.
     ///
     /// ```
-    /// /// The text to store for a location, if others read it as the same.
+    /// /// The text to store for a location, if this library reads it as the same.
     /// fn to_store(alloc: Global, url: &Url) -> Result<Option<BString>, Error> {
     ///     if !url.is_settled() {
     ///         return Ok(None);

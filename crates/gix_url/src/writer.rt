@@ -67,9 +67,13 @@ impl Url {
     /// contains the password if there is a user: `Display` hides that field.
     ///
     /// ```
-    /// /// A text in the form that this library writes.
-    /// fn rewritten(alloc: Global, text: &str) -> Result<BString, Error> {
-    ///     Url::from_text(alloc, text)?.to_bstring(alloc) // `ssh://h/p` of `ssh://H:/p`
+    /// /// A text in the form that this library writes, if all readers find the same place in it.
+    /// fn rewritten(alloc: Global, text: &str) -> Result<Option<BString>, Error> {
+    ///     let url = Url::from_text(alloc, text)?;
+    ///     if !url.is_unambiguous() {
+    ///         return Ok(None);
+    ///     }
+    ///     Ok(Some(url.to_bstring(alloc)?)) // `ssh://h/p` of `ssh://H:/p`
     /// }
     /// ```
     ///

@@ -11,12 +11,13 @@ use git_syntax::ssh_host::ssh_host_text;
 ///
 /// Hosts are compared ignoring letter case (ASCII), brackets around them, and a lone colon after them. Two
 /// locations without a host compare equal. Scheme, user and port are ignored: the locations may use different
-/// protocols, or different services of the host. Names are not resolved.
+/// protocols, or different services of the host. Names are not resolved. The hosts are the fields of the
+/// locations: that Git connects to them is known if the locations are unambiguous.
 ///
 /// ```
-/// /// Whether a rule moves a location to a host that the user hasn't named.
-/// fn is_moved(before: &UrlRef<'_>, after: &UrlRef<'_>) -> bool {
-///     !names_same_host(before, after)
+/// /// Whether a rule may move a location to a host that the user hasn't named.
+/// fn may_be_moved(before: &UrlRef<'_>, after: &UrlRef<'_>) -> bool {
+///     !(is_unambiguous(before) && is_unambiguous(after) && names_same_host(before, after))
 /// }
 /// ```
 pub fn names_same_host(a: &UrlRef<'_>, b: &UrlRef<'_>) -> bool
@@ -35,10 +36,16 @@ pub fn names_same_host(a: &UrlRef<'_>, b: &UrlRef<'_>) -> bool
 /// buffer as long as its text suffices.
 ///
 /// ```
-/// /// Whether both texts name the same host; none where one of them isn't read, or is longer than 1,024 bytes.
+/// /// Whether both texts name the same host for all readers; none where one of them isn't read, or not by all
+/// /// readers alike, or is longer than 1,024 bytes.
 /// fn keeps_host(before: &[u8], after: &[u8]) -> Option<bool> {
 ///     let mut buffer = [0u8; 1024];
 ///     let mut other = [0u8; 1024];
+///     if !is_unambiguous(&UrlRef::parse_in(before, &mut buffer).ok()?)
+///         || !is_unambiguous(&UrlRef::parse_in(after, &mut other).ok()?)
+///     {
+///         return None;
+///     }
 ///     texts_name_same_host(before, &mut buffer, after, &mut other).ok()
 /// }
 /// ```
@@ -63,11 +70,10 @@ pub fn texts_name_same_host(
 /// lone colon at their end.
 ///
 /// ```
-/// /// Whether a host is one of those that a program connects to.
-/// fn is_known(host: &str, known: &[&str]) -> bool {
-///     known
-///         .iter()
-///         .any(|name| is_same_host(host.as_bytes(), name.as_bytes()))
+/// /// Whether all readers connect to one of the known hosts.
+/// fn is_known(url: &UrlRef<'_>, known: &[&str]) -> bool {
+///     let host = url.host.unwrap_or("").as_bytes();
+///     is_unambiguous(url) && known.iter().any(|name| is_same_host(host, name.as_bytes()))
 /// }
 /// ```
 pub fn is_same_host(a: &[u8], b: &[u8]) -> bool
