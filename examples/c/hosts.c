@@ -1,5 +1,6 @@
-/* Says where each remote of the standard input leads: its host and port, or why it is refused. A host that may be taken for
- * an option isn't printed, since who reads the answers may pass it to a command.
+/* Prints where each remote of the standard input leads: its host and port, or why it is refused. A host that may be taken for
+ * an option isn't printed, since who reads the answers may pass it to a command; nor is one that Git or another reader may
+ * not find in the text of the location.
  *
  *   cc hosts.c $(pkg-config --cflags --libs gix_url) -o hosts && ./hosts <../remotes */
 #include <gix_url.h>
@@ -8,8 +9,11 @@
 
 static void lead(const gix_url *url) {
     gix_url_seen seen;
+    bool alike = false;
     if (gix_url_look(url, &seen) != GIX_URL_OK || seen.host == GIX_URL_DANGEROUS)
         printf("refused: the host begins with -, and may be taken for an option\n");
+    else if (gix_url_is_unambiguous(url, &alike) != GIX_URL_OK || !alike)
+        printf("no host to rely on\n");
     else if (seen.host == GIX_URL_ABSENT)
         printf("this machine\n");
     else if (seen.has_port)

@@ -1,4 +1,4 @@
-/* Says how each remote of the standard input is called by Secure Shell, and refuses what may be taken for an option.
+/* Prints how each remote of the standard input is called by Secure Shell, and refuses what may be taken for an option.
  *
  *   cc ssh_command.c $(pkg-config --cflags --libs gix_url) -o ssh_command && ./ssh_command <../remotes */
 #include <gix_url.h>
@@ -30,10 +30,10 @@ int main(void) {
     char line[4096], buffer[GIX_URL_ROOM(sizeof line)];
     while (fgets(line, sizeof line, stdin)) {
         gix_url url;
-        bool settled = false;
+        bool alike = false;
         gix_url_error error = gix_url_parse(line, strcspn(line, "\n"), buffer, sizeof buffer, &url, NULL, NULL);
-        /* Of a location that isn't settled, Git would read another host in its text. */
-        if (error == GIX_URL_OK && gix_url_is_settled(&url, &settled) == GIX_URL_OK && settled)
+        /* In the text of any other location, Git or another reader may find another host. */
+        if (error == GIX_URL_OK && gix_url_is_unambiguous(&url, &alike) == GIX_URL_OK && alike)
             command(&url);
         else
             printf("no location to rely on\n");

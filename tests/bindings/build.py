@@ -8,6 +8,7 @@ import re
 import shutil
 import subprocess
 
+from attacks import attacks
 from git_runs import put
 from rt_api import ROOT, program, read, stored
 from runs import ended
@@ -17,7 +18,7 @@ OUT = f"{ROOT}/out/bindings"
 os.environ.update(ASAN_OPTIONS="detect_leaks=1:halt_on_error=1", UBSAN_OPTIONS="halt_on_error=1:print_stacktrace=1")
 CRATE = "bindings/rust/gix-url-proved"
 # The arguments of the programs of docs/BINDINGS.md.
-TEXTS = ("ssh://git@example.com/gitoxide", "http://h:0/", "::address")
+TEXTS = ("ssh://git@example.com/gitoxide", "http://h:0/", "::address", *(text for text, _ in attacks()))
 # The tables of calls over a configuration, and over Git's readings.
 RULE_TABLES = ("git_readings", "rules/calls", "rules/dangers", "rules/git", "rules/secrets")
 

@@ -4,8 +4,10 @@ import os
 import re
 
 import pytest
+from attacks import attacks, misled
 from build import CRATE, OUT, built, run, sh
 from rt_api import ROOT, read, stored
+from runs import ended
 from test_rust import cargo
 
 pytestmark = pytest.mark.needs("cc", "c++", "clang", "pkg-config", "man", "nm", "readelf")
@@ -66,6 +68,13 @@ def test_example(source, library):
     made = f"{OUT}/{os.path.basename(source)}.example"
     sh(f'"${{CC:-cc}}" -std=c99 "${{warnings[@]}}" $(pkg-config --cflags gix_url) {source} {library} -o {made}', **FOUND)
     assert run(made, given=stored("examples/remotes"), **FOUND) == stored(source.removesuffix(".c") + ".wanted")
+
+
+@pytest.mark.parametrize("name", ["hosts", "ssh_command"])
+def test_no_example_is_misled(name):
+    """Of an attack it prints no host to which Git doesn't connect."""
+    texts = ended(text.encode() for text, _ in attacks())
+    assert misled(run(f"{OUT}/{name}.c.example", given=texts, **FOUND).decode().splitlines()) == []
 
 
 @pytest.mark.needs("cargo")

@@ -15,6 +15,7 @@ import page_template
 import pictures
 import pytest
 import reference
+from attacks import attacks, misled
 from reference_names import CLAUSE
 from contracts import contracts
 from rt_api import LAYERS, LIBRARY, ROOT, lines_of_crates, outdated, read, stands_on, stored
@@ -87,6 +88,15 @@ def test_each_block_of_code_is_proved():
     found = [(name, *it) for name in (*DOCUMENTS, *SOURCES) for it in blocks(name)]
     assert len(found) > 200
     assert not [f"{name}:{line}" for name, line, *it in found if not is_proved(*it)]
+
+
+def test_no_example_is_misled():
+    """The stored runs of the first example and of the programs of BINDINGS end with the attacks of READERS: none is answered with a host to
+    which Git doesn't connect."""
+    texts = [text for text, _ in attacks()]
+    assert len(texts) > 15 and read("crates/first_example/stdin").splitlines()[-len(texts):] == texts
+    for name in ("crates/first_example/stdout", "bindings/tests/example.wanted"):
+        assert not misled(read(name).splitlines()[-len(texts):])
 
 
 # ---- words, terms and tables

@@ -196,8 +196,9 @@ gix_url_error gix_url_parse(const char *input, size_t len, char *buffer, size_t 
 gix_url_error gix_url_from_parts(const gix_url *parts, char *buffer, size_t buffer_len, gix_url *url, size_t *needed,
                                  gix_url_problem *problem);
 
-/* True only if the location's text is read as the same parts, except for the spelling, and is written the same again.
- * False promises nothing: git://%5D/p isn't settled, and is read as the same parts. */
+/* True only if this library reads the location's text as the same parts, except for the spelling, and writes it the same
+ * again. That says nothing about Git: ssh://github.com/@[evil.com]/a is settled, its host is github.com, and Git connects to
+ * evil.com. False promises nothing: git://%5D/p isn't settled, and is read as the same parts. */
 gix_url_error gix_url_is_settled(const gix_url *url, bool *settled);
 
 /* True only if Git reads the same protocol, user, host, port and path in the text that gix_url_write stores. False promises

@@ -27,11 +27,11 @@ impl<'a> UrlRef<'a> {
     /// - [`ParseError::NoRoom`] if they spell one and the buffer is shorter than they are.
     ///
     /// ```
-    /// /// The host that a line names, in a buffer that is used for line after line.
+    /// /// The host that a line names for all readers, in a buffer that is used for line after line.
     /// fn host_in<'a>(line: &'a [u8], buffer: &'a mut [u8]) -> Option<&'a str> {
     ///     match UrlRef::parse_in(line, buffer) {
-    ///         Ok(url) => url.host, // `example.com` of `ssh://git@Example.com/repo`
-    ///         Err(_) => None,
+    ///         Ok(url) if is_unambiguous(&url) => url.host, // `example.com` of `ssh://git@Example.com/repo`
+    ///         Ok(_) | Err(_) => None,
     ///     }
     /// }
     /// ```

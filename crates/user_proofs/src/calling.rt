@@ -7,6 +7,7 @@ ghost use Rattle.gix_url.specs.GitClass.{ReadsOwn};
 ghost use Rattle.gix_url.specs.Grammar.{Spells};
 ghost use Rattle.gix_url.specs.Readings.{IsAgain, Refuses};
 ghost use Rattle.gix_url.specs.Settled.{IsSettled};
+ghost use Rattle.git_readers.specs.Conditions.{IsUnambiguous};
 ghost use Rattle.gix_url.specs.Text as spec;
 ghost use Rattle.gix_url.specs.Location.{Location, fields};
 
@@ -21,37 +22,38 @@ use std::alloc::Global;
 use std::process::Abort;
 use std::test::Fail;
 
-/// The host that a text names, if the location can be written and read again.
+/// The host that a text names, if Git and other readers are known to find it in the text that is written.
 fn host_of(alloc: Global, text: &str) -> Result<Option<String>, Error>
-    ensures named { IfOk result (λ host. IfSome host (λ h. (v : Location) × Spells text.now v × IsSettled v × (v.host ≡ Some (string_bytes h)))) }
+    ensures named { IfOk result (λ host. IfSome host (λ h. (v : Location) × Spells text.now v × IsUnambiguous v × (v.host ≡ Some (string_bytes h)))) }
     ensures refused { IfErr result (Refuses text.now) }
 {
     let url = Url::from_text(alloc, text)?;
-    if !url.is_settled() {
-        return Ok(None);
+    if !url.is_unambiguous() {
+        return Ok(None); // of `ssh://github.com/@[evil.com]/a`, for which Git connects to `evil.com`
     }
     Ok(url.host)
 }
 
-/// The text for another user of what a text names, if it is read as just that: nothing but the user is another.
+/// The text for another user of what a text names, if all readers find in it just that: nothing but the user is another.
 fn for_user(alloc: Global, text: &str, user: String) -> Result<Option<BString>, Error>
     ensures { IfOk result (λ new. IfSome new (λ t. (v : Location) × (w : Location) × Spells text.now v
         × Spells (bstring_bytes t) w × (fields w ≡ fields (record v { user = Some (string_bytes user) })))) }
 {
     let mut url = Url::from_text(alloc, text)?;
     url.user = Some(user);
-    if !url.is_settled() {
+    if !url.is_unambiguous() {
         return Ok(None);
     }
     let written = url.to_bstring(alloc)?;
     Ok(Some(written))
 }
 
-/// Whether two remotes are written alike. Then they have the same public fields.
+/// Whether two remotes are written alike, in texts that all readers read alike. Then they have the same public
+/// fields.
 fn are_alike(alloc: Global, one: &Url, other: &Url) -> Result<bool, Error>
     ensures { IfOk result (λ alike. alike ≡ true → fields one.now ≡ fields other.now) }
 {
-    if !one.is_settled() || !other.is_settled() {
+    if !one.is_unambiguous() || !other.is_unambiguous() {
         return Ok(false);
     }
     law_value(one);
@@ -130,6 +132,7 @@ fn hosts_that_come_back(rt: HostRuntime) -> Result<(), Fail> {
     let host = Some("example.com");
     names(&rt, rt.alloc(), "ssh://git@example.com/gitoxide", host)?;
     names(&rt, rt.alloc(), "[host]::path", None)?;
+    names(&rt, rt.alloc(), "ssh://github.com/@[evil.com]/a/b", None)?;
     is_refused(&rt, host_of(rt.alloc(), "http://"));
     Ok(())
 }
@@ -149,8 +152,14 @@ fn renames(
 
 #[test]
 fn another_user_in_the_same_place(rt: HostRuntime) -> Result<(), Fail> {
-    let written = Some("ssh://a%40b%2Fc%3Ad@h/p");
-    renames(&rt, rt.alloc(), "ssh://git@h/p", "a@b/c:d", written)?;
+    renames(
+        &rt,
+        rt.alloc(),
+        "ssh://git@h/p",
+        "deploy",
+        Some("ssh://deploy@h/p"),
+    )?;
+    renames(&rt, rt.alloc(), "ssh://git@h/p", "a@b/c:d", None)?;
     renames(&rt, rt.alloc(), "git@h:p", "a:b", None)
 }
 
@@ -222,10 +231,14 @@ fn ends_in(rt: &impl Abort, mut words: Vec<BString>, destination: &[u8], remote:
 #[test]
 fn user_and_path_come_through(rt: HostRuntime) -> Result<(), Fail> {
     let url = read(rt.alloc(), "git@github.com:a/b.git")?;
-    let words = words_to_fetch(rt.alloc(), &url)?;
-    ends_in(&rt, words, b"git@github.com", b"git-upload-pack 'a/b.git'");
-    let url = read(rt.alloc(), "ssh://-h/p")?;
-    assert!(rt; words_to_fetch(rt.alloc(), &url).is_err());
+    match words_to_fetch(rt.alloc(), &url)? {
+        None => assert!(rt; false, "Git reads the same place"),
+        Some(words) => ends_in(&rt, words, b"git@github.com", b"git-upload-pack 'a/b.git'"),
+    }
+    for text in ["ssh://-h/p", "ssh://github.com/@[evil.com]/a/b"] {
+        let url = read(rt.alloc(), text)?;
+        assert!(rt; words_to_fetch(rt.alloc(), &url)?.is_none());
+    }
     Ok(())
 }
 

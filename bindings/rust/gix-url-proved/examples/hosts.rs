@@ -1,5 +1,6 @@
 //! Prints the destination of each remote on the standard input: its host and port, or why it is refused. A host that
-//! may be taken for an option isn't printed, since a reader of the output may pass it to a command.
+//! may be taken for an option isn't printed, since a reader of the output may pass it to a command; nor is one that Git
+//! or another reader may not find in the text of the location.
 //!
 //! `cargo run --example hosts <../../../examples/remotes`
 
@@ -11,6 +12,7 @@ fn lead(url: &Url) -> String {
         (ArgumentSafety::Dangerous(_), _) => {
             "refused: the host begins with -, and may be taken for an option".to_owned()
         }
+        _ if !url.is_unambiguous() => "no host to rely on".to_owned(),
         (ArgumentSafety::Absent, _) => "this machine".to_owned(),
         (ArgumentSafety::Usable(host), Some(port)) => format!("{host} {port}"),
         (ArgumentSafety::Usable(host), None) => host.to_owned(),

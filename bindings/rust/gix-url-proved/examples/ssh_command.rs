@@ -20,8 +20,8 @@ fn command(url: &Url) -> String {
 
 fn main() -> io::Result<()> {
     for line in io::stdin().lock().split(b'\n') {
-        // Git may find another host in the text of a location that isn't settled.
-        match parse(line?).ok().filter(Url::is_settled) {
+        // Git or another reader may find another host in the text of any other location.
+        match parse(line?).ok().filter(Url::is_unambiguous) {
             Some(url) => println!("{}", command(&url)),
             None => println!("no location to rely on"),
         }

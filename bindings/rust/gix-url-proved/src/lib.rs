@@ -11,7 +11,7 @@
 //! let url = gix_url_proved::parse("ssh://git@example.com/gitoxide")?;
 //! assert_eq!(url.host(), Some("example.com"));
 //! assert_eq!(url.path, "/gitoxide");
-//! assert!(url.is_settled());
+//! assert!(url.is_unambiguous());
 //! # Ok::<(), gix_url_proved::parse::Error>(())
 //! ```
 //!

@@ -250,9 +250,9 @@ impl Url {
         PathComponents { path: path.into(), query: None, fragment: None }
     }
 
-    /// True only if the text of the location is parsed as the same public fields and is written the same again. This
-    /// decides the class of settled locations, which `docs/GRAMMAR.md` in the repository defines. False guarantees
-    /// nothing: some locations of Secure Shell, of Git's own protocol and of other schemes come back unchanged and
+    /// True only if this library parses the text of the location as the same public fields and writes it the same
+    /// again. This decides the class of settled locations, which `docs/GRAMMAR.md` in the repository defines. It says
+    /// nothing about Git: before a host is trusted, ask [`Url::is_unambiguous`]. False guarantees nothing: some locations of Secure Shell, of Git's own protocol and of other schemes come back unchanged and
     /// aren't in the class.
     ///
     /// ```

@@ -1,6 +1,5 @@
 -- The words are those of a command for the location, which is safe.
-use Rattle.std.proofs.Common.{◌∙◌, ℕ, List, [], ◌∷◌, Some, refl, ap, map, subst, Result, Ok, Err, IfOk}
-use Rattle.bstr.specs.Owned.{bstring_bytes}
+use Rattle.std.proofs.Common.{◌∙◌, ℕ, List, [], ◌∷◌, Some, refl, ap, subst}
 use Rattle.gix_url.specs.Git.{UserCut}
 use Rattle.gix_url.specs.Location.{Location}
 use Rattle.git_rules.specs.declared.ssh.Service.TheVariants.{UploadPack}
@@ -24,10 +23,5 @@ fetches v words are =
       read = are.safe.words.service (ap (λ (r : Request). r.program) are.asked) ∙ ap (λ (r : Request). Some (service_name r.service ∷ c.path ∷ [])) are.asked ∙ ap (λ p. Some (service_name UploadPack ∷ p ∷ [])) are.own.path;
     }
 
-in_result : {T E : Type 0} (v : Location) (f : T → List (List ℕ)) (r : Result T E) → IfOk r (λ t. AreWordsFor v (service_alone UploadPack Ssh V2) (f t)) → IfOk r (λ t. FetchesFrom v (f t))
-in_result v f (Ok t) h = fetches v (f t) h
-in_result v f (Err e) h = tt
-
 pub returns-clause-words : goal.returns-clause-words
-returns-clause-words c =
-    in_result c.args.url.now (λ words. map bstring_bytes words.items) c.ssh_words.result (subst (λ v. IfOk c.ssh_words.result (λ words. AreWordsFor v (service_alone UploadPack Ssh V2) (map bstring_bytes words.items))) c.as_ref.ensures c.ssh_words.ensures.words)
+returns-clause-words c = fetches c.args.url.now _ (subst (λ v. AreWordsFor v (service_alone UploadPack Ssh V2) _) c.as_ref.ensures c.in_ok-words.ensures.words)
