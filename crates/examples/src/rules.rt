@@ -109,7 +109,7 @@ fn host_of<'a>(text: &'a [u8], buffer: &'a mut [u8]) -> Option<&'a [u8]> {
     }
 }
 
-/// The entries of a text; none if it is no output of `git config --list -z`.
+/// The entries of a text; none if it isn't the whole output of `git config --list -z`.
 fn checked(alloc: Global, text: &[u8]) -> Result<Option<Vec<Entry<'_>>>, AllocError> {
     if !is_listing(text) {
         return Ok(None); // of `user.name=me` and a line feed

@@ -134,7 +134,7 @@ fn answer_by_source<W: Write>(
         entries.as_slice(),
         of_protocols.as_slice(),
     )?;
-    for fault in &config::faults(rt.alloc(), source.text.as_slice())? {
+    for fault in &config::faults(rt.alloc(), entries.as_slice())? {
         report_fault(rt, *fault);
     }
     if given.get_flag("remotes") {

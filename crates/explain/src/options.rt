@@ -13,7 +13,7 @@ use std::{env, io};
 
 /// The text after the options in the output of `--help`.
 const MORE: &str = "\
-A location is settled if its own text is read as the same location again: what is written then names the same host.
+A location is settled if this library reads its own text as the same location again. Git may read another place there (git-differs), and so may other programs.
 
 Examples:
   explain git@github.com:a/b.git
@@ -28,10 +28,10 @@ These can't be given together:
 Exit status: 0 if nothing was found, 1 if something was, 2 for wrong arguments, a run that was cut short or, with --ssh, a line that is not of Secure Shell. What can be found: a danger, a location that is not settled, a refused line, a text that Git is not known to read the same (git-differs), and with --config a transport that Git does not use (policy).";
 
 /// The version of the library and the program, as in the last title of the changes.
-pub const VERSION: &str = "0.40.1+24";
+pub const VERSION: &str = "0.40.1+25";
 /// The output of `--version`: that version, the version of the Rust crate whose behaviour the library has, and where
 /// the commit is recorded.
-const VERSIONS: &str = "0.40.1+24 (gix-url 0.40.1)
+const VERSIONS: &str = "0.40.1+25 (gix-url 0.40.1)
 The file receipt of a bundle (share/gix_url/receipt) or of a Debian package has the commit and the toolchain.";
 
 /// Options that exclude each other: each is a layout of its own.

@@ -36,7 +36,7 @@ pub enum SourceError {
     Memory,
     /// The file can't be read.
     Unread(io::Error),
-    /// The text isn't output of `git config --list -z`.
+    /// The text isn't output of `git config --list -z`, or not all of it.
     NoListing,
     /// A variable isn't UTF-8.
     NotUtf8(&'static str),
@@ -53,7 +53,9 @@ impl fmt::Display for SourceError {
         match self {
             SourceError::Memory => f.write_str("out of memory"),
             SourceError::Unread(error) => write!(f, "{error}"),
-            SourceError::NoListing => f.write_str("use git config --list -z"),
+            SourceError::NoListing => f.write_str(
+                "it isn't the whole output of git config --list -z",
+            ),
             SourceError::NotUtf8(name) => write!(f, "{name} is not UTF-8"),
         }
     }

@@ -73,20 +73,11 @@ abbrev pub GivesItem : Place → Option Item → Place → Type 0
 GivesItem from None next = (from.rest ≡ []) × (next ≡ from)
 GivesItem from (Some item) next = ReadsItem from item next
 
--- the item isn't an error for a key without a section or a name
-abbrev pub HasKey : Item → Type 0
-HasKey (Ok e) = Unit {0}
-HasKey (Err (NoKey at)) = ⊥
-HasKey (Err (NoEnd at)) = Unit {0}
+-- the item is an entry
+abbrev pub IsEntry : Item → Type 0
+IsEntry (Ok e) = Unit {0}
+IsEntry (Err error) = ⊥
 
--- each line of the text has a key with a section and a name
-abbrev pub HasKeys : List ℕ → Type 0
-HasKeys text = (items : List Item) × ReadsItems (start text) items × All HasKey items
-
--- the text is empty or contains a byte 0
-abbrev pub IsEnded : List ℕ → Type 0
-IsEnded text = (text ≡ []) ⊎ ¬ FreeOf 0 text
-
--- the text is empty or contains a byte 0, and each line that a byte 0 ends has a key with a section and a name
+-- the text is a whole listing: each of its items is an entry, so each key has a section and a name, and a byte 0 ends each entry
 abbrev pub IsListing : List ℕ → Type 0
-IsListing text = IsEnded text × HasKeys text
+IsListing text = (items : List Item) × ReadsItems (start text) items × All IsEntry items

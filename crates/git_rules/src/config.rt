@@ -5,12 +5,12 @@
 
 ghost use Rattle.std.specs.Prelude.{◌≡◌, ◌↔◌, ◌==◌, ◌++◌, ◌∷◌, [], IfOk, IsTrue, OnOk, count_by};
 ghost use Rattle.git_rules.specs.Config.{has_name, is_of_section, of_section, sets};
-ghost use Rattle.git_rules.specs.ConfigItems.{CutsKey, CutsName, CutsValue, HasEntries, HasKey, HasKeys, IsEnded, IsListing, MeansItem, entries_of, start};
+ghost use Rattle.git_rules.specs.ConfigItems.{CutsKey, CutsName, CutsValue, HasEntries, IsEntry, IsListing, MeansItem, entries_of, start};
 
 pub mod law;
 
 use crate::word::is_word;
-use git_syntax::bytes::{cut, is_free_of, last_cut};
+use git_syntax::bytes::{cut, last_cut};
 use std::alloc::{AllocError, Global};
 use std::marker::Model;
 use thiserror::Error;
@@ -232,14 +232,14 @@ fn cut_name(suffix: &[u8]) -> (Option<&[u8]>, &[u8])
     }
 }
 
-/// Whether the text may be the output of `git config --list -z`: it is empty or contains a byte 0, and each key
-/// that a byte 0 ends has a section and a name.
+/// Whether the text may be the whole output of `git config --list -z`: it is empty or ends in a byte 0, and each key
+/// has a section and a name.
 ///
-/// So the output of `git config --list`, or a configuration file, isn't mistaken for a configuration without
-/// entries. The result is true for a text whose last entry is cut off; a [`Reader`] reports that.
+/// So the output of `git config --list`, a configuration file, or a listing that is cut off in an entry isn't
+/// mistaken for a configuration without these entries. A [`Reader`] returns the error and its place.
 ///
 /// ```
-/// /// The entries of a text; none if it is no output of `git config --list -z`.
+/// /// The entries of a text; none if it isn't the whole output of `git config --list -z`.
 /// fn checked(alloc: Global, text: &[u8]) -> Result<Option<Vec<Entry<'_>>>, AllocError> {
 ///     if !is_listing(text) {
 ///         return Ok(None); // of `user.name=me` and a line feed
@@ -250,33 +250,19 @@ fn cut_name(suffix: &[u8]) -> (Option<&[u8]>, &[u8])
 pub fn is_listing(text: &[u8]) -> bool
     ensures { IsTrue result ↔ IsListing text.now }
 {
-    is_ended(text) && has_keys(text)
-}
-
-/// Whether the text is empty or contains a byte 0.
-fn is_ended(text: &[u8]) -> bool
-    ensures { IsTrue result ↔ IsEnded text.now }
-{
-    text.is_empty() || !is_free_of(text, 0)
-}
-
-/// Whether each line of the text has a key with a section and a name.
-fn has_keys(text: &[u8]) -> bool
-    ensures { IsTrue result ↔ HasKeys text.now }
-{
     for item in Reader::new(text) {
-        if !has_key(item) {
+        if !is_entry(item) {
             return false;
         }
     }
     true
 }
 
-/// Whether the item isn't the error for a key without a section or a name.
-fn has_key(item: Result<Entry<'_>, EntryError>) -> bool
-    ensures { IsTrue result ↔ HasKey item.entry }
+/// Whether the item is an entry.
+fn is_entry(item: Result<Entry<'_>, EntryError>) -> bool
+    ensures { IsTrue result ↔ IsEntry item.entry }
 {
-    !matches!(item, Err(EntryError::NoKey { at: _ }))
+    matches!(item, Ok(_))
 }
 
 /// Returns the entries of a text that `git config --list -z` writes, in its order. It skips everything that isn't

@@ -2,7 +2,7 @@
 
 use crate::memory::both;
 use bstr::ByteSlice;
-use git_rules::config::{Entry, EntryError, Reader, entries_of};
+use git_rules::config::{Entry, entries_of};
 use git_rules::normal::needed_buffer_len;
 use git_rules::pattern::UrlPattern;
 use git_rules::protocols::Protocols;
@@ -130,35 +130,20 @@ pub struct Fault {
     pub words: &'static str,
 }
 
-/// Returns all faults of a configuration, in their order.
-pub fn faults(alloc: Global, text: &[u8]) -> Result<Vec<Fault>, AllocError> {
-    let mut buffer = vec![in alloc; 0u8; needed_buffer_len(text.len())]?;
+/// Returns all faults of the entries of a configuration, in their order.
+pub fn faults(alloc: Global, entries: &[Entry<'_>]) -> Result<Vec<Fault>, AllocError> {
+    let longest = entries.iter().map(url_len).max().unwrap_or(0);
+    let mut buffer = vec![in alloc; 0u8; needed_buffer_len(longest)]?;
     let mut found = Vec::new(alloc);
-    for item in Reader::new(text) {
-        if let Some(fault) = fault_of(item, buffer.as_mut_slice()) {
-            found.push(fault)?;
+    for entry in entries {
+        if let Some(words) = words_of(entry, buffer.as_mut_slice()) {
+            found.push(Fault {
+                at: entry.at,
+                words,
+            })?;
         }
     }
     Ok(found)
-}
-
-/// The fault of an entry, or of a text that isn't an entry.
-fn fault_of(item: Result<Entry<'_>, EntryError>, buffer: &mut [u8]) -> Option<Fault> {
-    match item {
-        Err(EntryError::NoKey { at }) => Some(Fault {
-            at,
-            words: "has no section or no name",
-        }),
-        Err(EntryError::NoEnd { at }) => Some(Fault {
-            at,
-            words: "has no end",
-        }),
-        Ok(entry) => {
-            let at = entry.at;
-            let words = words_of(&entry, buffer)?;
-            Some(Fault { at, words })
-        }
-    }
 }
 
 /// The fault of an entry, in words.

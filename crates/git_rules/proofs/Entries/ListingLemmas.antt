@@ -2,7 +2,7 @@
 use Rattle.std.proofs.Common.{◌≡◌, List, [], ◌∷◌, ◌++◌, refl, sym, ap, subst, append_assoc, ◌∙◌}
 use Rattle.std.specs.List.{All, Contains}
 use Rattle.std.proofs.lemmas.List.Elements.{All-contains, Contains-append_left, Contains-push}
-use Rattle.git_rules.specs.ConfigItems.{HasKey, Item, Place, ReadsItem, ReadsItems}
+use Rattle.git_rules.specs.ConfigItems.{IsEntry, Item, Place, ReadsItem, ReadsItems}
 use Rattle.git_rules.proofs.Entries.OneReadingLemmas.{no_item, step_unique}
 
 -- each reading from the first place has these items first, and goes on from another place
@@ -24,9 +24,9 @@ splits_item first done from next item h read items all =
     let after = after_item from next item at.0 read at.2 in
     (after.0, at.1 ∙ ap (λ more. done ++ more) after.1 ∙ sym (append_assoc done (item ∷ []) after.0), after.2)
 
--- a reading in which an item lacks its key isn't one of keys alone
-pub lacks_key : (first : Place) (done : List Item) (from next : Place) (item : Item) → Splits first done from → ReadsItem from item next → ¬ HasKey item → (items : List Item) → ReadsItems first items → ¬ All HasKey items
-lacks_key first done from next item h read lacks items all keyed =
+-- a reading with an item that is no entry isn't one of entries alone
+pub lacks_entry : (first : Place) (done : List Item) (from next : Place) (item : Item) → Splits first done from → ReadsItem from item next → ¬ IsEntry item → (items : List Item) → ReadsItems first items → ¬ All IsEntry items
+lacks_entry first done from next item h read lacks items all entries =
     let at = splits_item first done from next item h read items all in
     let held = Contains-append_left (done ++ item ∷ []) at.0 item (Contains-push done item) in
-    lacks (All-contains HasKey items item keyed (subst (λ its. Contains its item) (sym at.1) held))
+    lacks (All-contains IsEntry items item entries (subst (λ its. Contains its item) (sym at.1) held))
