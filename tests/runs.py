@@ -14,12 +14,12 @@ def ended(texts, end=b"\n"):
     return b"".join(it + end for it in texts)
 
 
-def run(name, words=(), given=b"", timeout=60, **how):
+def run(name, words=(), given=b"", timeout=600, **how):
     """A run of a program: its status, its output and its reports."""
     return subprocess.run([program(name), *words], input=given, capture_output=True, timeout=timeout, check=False, **how)
 
 
-def explain(words=(), given=b"", timeout=300, statuses=(0, 1)):
+def explain(words=(), given=b"", timeout=600, statuses=(0, 1)):
     """What `explain` writes; it must end with one of these statuses."""
     ran = run("explain", words, given, timeout)
     assert ran.returncode in statuses, f"explain {words} ended with {ran.returncode}: {ran.stderr!r}"

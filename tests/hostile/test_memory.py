@@ -36,7 +36,7 @@ class Ran:
     def __init__(self, words, shim, given, refused):
         with open(os.memfd_create("requests"), "rb") as reported:
             env = {"LD_PRELOAD": shim, "REFUSED": str(refused), "REQUESTS_TO": str(reported.fileno())}
-            ran = subprocess.run(words, input=given, env=env, pass_fds=[reported.fileno()], capture_output=True, timeout=60)
+            ran = subprocess.run(words, input=given, env=env, pass_fds=[reported.fileno()], capture_output=True, timeout=600)
             reported.seek(0)
             self.reported = reported.read()
         self.status, self.out, self.err = ran.returncode, ran.stdout, ran.stderr

@@ -14,7 +14,7 @@ LINES = b"a::b://c\n/srv/repo.git\nhttp://h:0/\n"
 @pytest.mark.parametrize("row", rows_of("tests/hostile/streams.jsonl"), ids=lambda it: it["command"])
 def test_stream(row):
     words = ["bash", "-o", "pipefail", "-c", row["command"], program(row["program"])]
-    ran = subprocess.run(words, input=LINES, capture_output=True, timeout=60)
+    ran = subprocess.run(words, input=LINES, capture_output=True, timeout=600)
     assert (ran.returncode, ran.stderr.decode()) == (row["status"], row["reported"])
     assert ran.stdout.decode() == joined(row["shown"])
 
@@ -25,7 +25,7 @@ def test_end_of_a_terminal():
     started = subprocess.Popen([program("explain")], stdin=other, stdout=subprocess.PIPE, stderr=subprocess.PIPE)
     os.write(terminal, b"h:p\x04\x04next\n")
     try:
-        said, reported = started.communicate(timeout=20)
+        said, reported = started.communicate(timeout=600)
     finally:
         started.kill()
     assert (started.returncode, said.startswith(b"line 1: scp form, settled\n"), b"line 2" in said) == (0, True, False)

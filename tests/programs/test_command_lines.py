@@ -67,7 +67,7 @@ def test_call(call):
 def test_colours_on_a_terminal(variables, wanted):
     """Answers are coloured on a terminal that can show colours, unless NO_COLOR says otherwise."""
     words = ["script", "-qec", f"env -u NO_COLOR -u TERM {variables} {program('explain')} h:p", os.devnull]
-    ran = subprocess.run(words, stdin=subprocess.DEVNULL, stdout=subprocess.PIPE, timeout=20)
+    ran = subprocess.run(words, stdin=subprocess.DEVNULL, stdout=subprocess.PIPE, timeout=600)
     assert (b"\x1b[" in ran.stdout) == wanted
 
 
@@ -97,7 +97,7 @@ def test_pair(pair):
 # ---- completions
 
 def said(*words):
-    return subprocess.run(words, stdout=subprocess.PIPE, stderr=subprocess.STDOUT, text=True, timeout=60, check=False)
+    return subprocess.run(words, stdout=subprocess.PIPE, stderr=subprocess.STDOUT, text=True, timeout=600, check=False)
 
 
 @pytest.mark.quick

@@ -31,7 +31,7 @@ class Place:
                             PATH=f"{scratch}/bin:{os.environ['PATH']}")
 
     def run(self, *words, folder="."):
-        return subprocess.run(words, cwd=f"{self.scratch}/{folder}", env=self.around, stdout=subprocess.PIPE, stderr=subprocess.STDOUT, text=True, timeout=120)
+        return subprocess.run(words, cwd=f"{self.scratch}/{folder}", env=self.around, stdout=subprocess.PIPE, stderr=subprocess.STDOUT, text=True, timeout=600)
 
     def git(self, *words, folder="work"):
         ran = self.run("git", *words, folder=folder)

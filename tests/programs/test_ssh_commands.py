@@ -31,7 +31,7 @@ LINES, WITHOUT, CONFIGURATIONS, VARIABLES = in_bytes(DATA["lines"]), in_bytes(DA
 def shown_by(words, scratch, variables=None, given=b""):
     shown = put(f"{scratch}/shown", "")
     environment = {"PATH": f"{scratch}/bin:/usr/bin:/bin", "HOME": scratch, "SHOWN": shown, "GIT_CONFIG_NOSYSTEM": "1", **(variables or {})}
-    ran = subprocess.run(words, env=environment, cwd=scratch, capture_output=True, timeout=60, input=given)
+    ran = subprocess.run(words, env=environment, cwd=scratch, capture_output=True, timeout=600, input=given)
     return ran, stored(shown)
 
 

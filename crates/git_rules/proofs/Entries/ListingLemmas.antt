@@ -24,7 +24,7 @@ splits_item first done from next item h read items all =
     let after = after_item from next item at.0 read at.2 in
     (after.0, at.1 ∙ ap (λ more. done ++ more) after.1 ∙ sym (append_assoc done (item ∷ []) after.0), after.2)
 
--- a reading with an item that is no entry isn't one of entries alone
+-- a reading with an item that isn't an entry has not only entries
 pub lacks_entry : (first : Place) (done : List Item) (from next : Place) (item : Item) → Splits first done from → ReadsItem from item next → ¬ IsEntry item → (items : List Item) → ReadsItems first items → ¬ All IsEntry items
 lacks_entry first done from next item h read lacks items all entries =
     let at = splits_item first done from next item h read items all in
