@@ -209,6 +209,20 @@ def test_results_can_be_hashed_and_pickled():
                 setattr(it, field.name, None)
 
 
+@pytest.mark.parametrize("name", [b"extraHeader", b"extraheader", b"smtpPass", b"apiToken", b"Password", b"cookie"])
+def test_a_secret_by_its_name_is_not_represented(name):
+    """Of http.<url>.*, as a result and in a configuration."""
+    config = rules.Configuration((rules.Entry(b"http", b"https://h/", name, b"Authorization: Basic czNjcmV0"),))
+    for it in (config, config.entries, config.settings(name, "https://h/p")):
+        assert "czNjcmV0" not in repr(it) and "value=b'redacted'" in repr(it)
+    assert "value=b'/c'" in repr(rules.Entry(b"http", None, b"cookieFile", b"/c"))
+
+
+def test_a_password_in_a_user_is_not_represented():
+    assert repr(rules.git_reading("ssh://u:s3cret@h/p")) == "GitPlace(protocol=Protocol.SSH, user=b'u:redacted', host=b'h', port=None, path=b'/p')"
+    assert "user=b'u'" in repr(rules.git_reading("ssh://u@h/p"))
+
+
 def test_no_password_is_represented():
     assert "s3cret" not in "".join(repr(it) for it in results())
     assert "redacted" in repr(rules.resolve_submodule("https://u:s3cret@h/p", "../q"))

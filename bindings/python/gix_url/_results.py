@@ -1,10 +1,15 @@
 """The results of the calls of `gix_url.rules`, and the numbers that the calls take: those of gix_url_rules.h
 by their names."""
 import dataclasses
+from typing import Any
 
 from ._calls import make
 from ._secrets import Redacted
 from ._values import Named, check_type
+
+
+# The ends of the names of variables whose values are secrets, such as extraHeader, which holds the token of a CI.
+_SECRETS = (b"header", b"token", b"password", b"pass", b"cookie")
 
 
 class Flaw(Named):
@@ -116,7 +121,8 @@ class SubmoduleRefusal(Named):
 @dataclasses.dataclass(frozen=True, repr=False)
 class Entry(Redacted):
     """An entry of a configuration: section.subsection.name and its value, bytes or None if it has none; a key
-    without = has no value. Section and name are compared without letter case. `at` is how many bytes of the
+    without = has no value. Section and name are compared without letter case. The representation hides the value if
+    the name ends in header, token, password, pass or cookie. `at` is how many bytes of the
     parsed text come before the entry, and `line` the line of a file on which the name begins, from 1; it is 0
     in a listing.
 
@@ -139,6 +145,10 @@ class Entry(Redacted):
             check_type(name, getattr(self, name), int)
             if not 0 <= getattr(self, name) < 1 << 64:
                 raise ValueError(f"gix_url: {name} is out of range")
+
+    def _seen(self, name: str) -> Any:
+        is_secret = name == "value" and self.name.lower().endswith(_SECRETS)
+        return b"redacted" if is_secret and self.value else super()._seen(name)
 
     @property
     def key(self) -> bytes:

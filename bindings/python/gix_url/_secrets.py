@@ -33,12 +33,21 @@ def redacted(text: str | bytes) -> str:
 
 
 class Redacted:
-    """A value that is represented with `redacted` in place of pieces of its texts that may be secrets."""
+    """A value that is represented with `redacted` in place of pieces of its texts that may be secrets, and of what
+    follows a colon in a user: Git's transports take a password there for a part of the user."""
 
     def __repr__(self) -> str:
         fields = dataclasses.fields(self)
-        shown = (f"{it.name}={_shown(getattr(self, it.name))}" for it in fields if it.repr)
+        shown = (f"{it.name}={_shown(self._seen(it.name))}" for it in fields if it.repr)
         return f"{type(self).__name__}({', '.join(shown)})"
+
+    def _seen(self, name: str) -> Any:
+        """The value of a field as it is represented, before its texts are redacted."""
+        value = getattr(self, name)
+        if name != "user" or value is None:
+            return value
+        user, colon, _ = value.partition(b":")
+        return user + colon + (b"redacted" if colon else b"")
 
 
 def _shown(value: Any) -> str:

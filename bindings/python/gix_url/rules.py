@@ -18,7 +18,8 @@ The rules are those of Git 2.39.5 on Linux; docs/RULES.md describes them, and do
 No call reads a file or the environment, or runs a program: the caller passes texts. A text is bytes, or a
 str, which is encoded in UTF-8 with `surrogateescape`; a value of another type is a TypeError. Results are
 bytes. They may have secrets: the representation (`%r`) of a result shows each one that `secrets` finds as
-`redacted`. Calls may run in several threads; all values can be hashed and pickled. Each call raises
+`redacted`, what follows a colon in a user, and the value of a variable whose name ends in header, token,
+password, pass or cookie. Calls may run in several threads; all values can be hashed and pickled. Each call raises
 MemoryError if memory is refused.
 """
 import dataclasses
