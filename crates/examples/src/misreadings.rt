@@ -2,6 +2,7 @@
 
 use git_audit::misreading::{GROUPS, Group, is_misread, other_host};
 use gix_url::UrlRef;
+use gix_url::unambiguous::is_unambiguous;
 use std::alloc::{AllocError, Global};
 
 /// The readers that take another host from a text, each group with a line feed after it.
@@ -16,10 +17,11 @@ fn misreaders(alloc: Global, text: &[u8], url: &UrlRef<'_>) -> Result<String, Al
     Ok(words)
 }
 
-/// Whether a forge may pass a text on: it is read, and no known reader takes another host from it.
+/// Whether a forge may pass a text on: all readers of a family find the same place in it once it is written, and no
+/// known reader takes another host from it.
 fn may_be_passed_on(text: &[u8], buffer: &mut [u8]) -> bool {
     match UrlRef::parse_in(text, buffer) {
-        Ok(url) => !is_misread(text, &url), // not `ssh://github.com?@evil.com/a/b`
+        Ok(url) => is_unambiguous(&url) && !is_misread(text, &url), // not `ssh://github.com?@evil.com/a/b`
         Err(_) => false,
     }
 }

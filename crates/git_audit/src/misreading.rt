@@ -50,14 +50,16 @@ pub fn other_host<'a>(text: &'a [u8], url: &UrlRef<'_>, group: Group) -> Option<
 
 /// Whether the readers of some group find another host in a text than that of the location that is parsed from it.
 ///
-/// If no group does, other programs may still read another host: the groups only cover the known readings.
-/// `gix_url::Url::is_unambiguous` decides whether all readers of a family agree on a text.
+/// If no group does, other programs may still read another host, and so may Git: the groups only cover the known
+/// readings of other programs. `gix_url::Url::is_unambiguous` decides whether all readers of a family agree on a
+/// text, Git among them.
 ///
 /// ```
-/// /// Whether a forge may pass a text on: it is read, and no known reader takes another host from it.
+/// /// Whether a forge may pass a text on: all readers of a family find the same place in it once it is written, and no
+/// /// known reader takes another host from it.
 /// fn may_be_passed_on(text: &[u8], buffer: &mut [u8]) -> bool {
 ///     match UrlRef::parse_in(text, buffer) {
-///         Ok(url) => !is_misread(text, &url), // not `ssh://github.com?@evil.com/a/b`
+///         Ok(url) => is_unambiguous(&url) && !is_misread(text, &url), // not `ssh://github.com?@evil.com/a/b`
 ///         Err(_) => false,
 ///     }
 /// }
