@@ -1,5 +1,6 @@
 -- The words are those of a command for the location, which is safe.
-use Rattle.std.proofs.Common.{◌∙◌, ℕ, List, [], ◌∷◌, Some, refl, ap, subst}
+use Rattle.std.proofs.Common.{◌∙◌, ℕ, List, [], ◌∷◌, Some, refl, ap, map, subst}
+use Rattle.bstr.specs.Owned.{bstring_bytes}
 use Rattle.gix_url.specs.Git.{UserCut}
 use Rattle.gix_url.specs.Location.{Location}
 use Rattle.git_rules.specs.declared.ssh.Service.TheVariants.{UploadPack}
@@ -24,4 +25,4 @@ fetches v words are =
     }
 
 pub returns-clause-words : goal.returns-clause-words
-returns-clause-words c = fetches c.args.url.now _ (subst (λ v. AreWordsFor v (service_alone UploadPack Ssh V2) _) c.as_ref.ensures c.in_ok-words.ensures.words)
+returns-clause-words c = fetches c.args.url.now _ (subst (λ v. AreWordsFor v (service_alone UploadPack Ssh V2) (map bstring_bytes c.in_ok-words.words.items)) c.as_ref.ensures c.in_ok-words.ensures.words)
