@@ -1,8 +1,8 @@
 /* The calls of gix_url.h, over the exports of the static library crates/gix_url_c.
  *
  * Null pointers become errors, parts become pointers and lengths, and returned lengths become pointers into the
- * caller's buffer. The declarations of exports and their types match crates/gix_url_c/src. A slice of that library is a
- * pointer that isn't null and a length. */
+ * caller's buffer. The declarations of exports match crates/gix_url_c/src, and their types crates/c_values/src. A slice
+ * of that library is a pointer that isn't null and a length. */
 #include "parts.h"
 
 typedef struct made {

@@ -2,8 +2,8 @@
  * crates/gix_url_c.
  *
  * As in gix_url.c, null pointers become errors, and returned lengths become pointers into the caller's buffers. The
- * declarations of exports and their types match crates/gix_url_c/src/rules. A slice of that library is a pointer that
- * isn't null and a length. A gix_url_entry has the layout of an entry of that library. */
+ * declarations of exports match crates/gix_url_c/src/rules, and their types crates/c_values/src/rules. A slice of that
+ * library is a pointer that isn't null and a length. A gix_url_entry has the layout of an entry of that library. */
 #include "gix_url_rules.h"
 #include "parts.h"
 

@@ -4,7 +4,7 @@ use mathlib.Core.Logic.{inl, inr}
 use Rattle.gix_url.specs.Location.{Location}
 use Rattle.git_readers.specs.declared.unambiguous.Condition.{Condition}
 use Rattle.git_readers.specs.Conditions.{IsFirstUnmet, IsUnambiguous}
-use Rattle.gix_url_c.specs.Codes.{condition_number, condition_reported}
+use Rattle.c_values.specs.Codes.{condition_number, condition_reported}
 
 -- the number of the result is 0 for a location that meets all conditions, and else that of the first unmet
 -- one

@@ -3,13 +3,13 @@
 //! caller who copies the parts copies them once.
 
 ghost use Rattle.std.specs.Prelude.{◌≡◌, length};
-ghost use Rattle.gix_url_c.specs.Codes.{memory, no_problem};
-ghost use Rattle.gix_url_c.specs.Left.{LeavesProblem, LeavesBuffer};
-ghost use Rattle.gix_url_c.specs.Borrowed.{IsBorrowed, ReportsReadIn};
+ghost use Rattle.c_values.specs.Codes.{memory, no_problem};
+ghost use Rattle.c_values.specs.Left.{LeavesProblem, LeavesBuffer};
+ghost use Rattle.c_values.specs.Borrowed.{ReportsReadIn};
 
-use crate::codes::{NO_ROOM, OK, Problem, no_problem, problem_of_refusal, refusal_code};
-use crate::input::{PartBytes, reload};
-use crate::output::{name, numbers, part, text};
+use c_values::borrowing::borrowed_of;
+use c_values::codes::{NO_ROOM, OK, Problem, no_problem, problem_of_refusal, refusal_code};
+use c_values::input::PartBytes;
 use gix_url::{ParseError, UrlRef};
 
 /// Reads the location that the bytes spell, by [`gix_url::UrlRef::parse_in`], and reports its parts. They borrow from
@@ -41,20 +41,5 @@ pub extern "C" fn gix_url_c_read_in<'a>(
             *reported = problem_of_refusal(input, &refusal);
             refusal_code(&refusal)
         }
-    }
-}
-
-/// The numbers and the parts of the location.
-fn borrowed_of<'a>(url: &UrlRef<'a>) -> PartBytes<'a>
-    ensures { IsBorrowed url.now result }
-{
-    PartBytes {
-        numbers: numbers(url),
-        name: name(url.scheme),
-        user: text(url.user),
-        password: text(url.password),
-        host: text(url.host),
-        path: reload(url.path),
-        spelling: part(url.spelling),
     }
 }

@@ -3,17 +3,16 @@
 //!
 //! Each is a call on a location that has this part alone. Any part is accepted, so there is no error.
 
-ghost use Rattle.std.specs.Prelude.{◌≡◌, ◌==◌, Some, None, [], ◌∷◌, bytes_eq, if◌then◌else◌, option_map};
+ghost use Rattle.std.specs.Prelude.{◌≡◌, ◌==◌, Some, None, [], ◌∷◌, bytes_eq, if◌then◌else◌};
 ghost use Rattle.std.specs.Option.{option_or};
 ghost use Rattle.gix_url.specs.Arguments.{is_path_argument, judgement_of};
 ghost use Rattle.gix_url.specs.Bytes.{slash};
 ghost use Rattle.gix_url.specs.Schemes.{default_port_of};
 ghost use Rattle.gix_url.specs.Text.{matching_or};
-ghost use Rattle.gix_url_c.specs.Input.{present, scheme_numbered};
-ghost use Rattle.gix_url_c.specs.SeenLocations.{judgement_number, port_number, truth};
+ghost use Rattle.c_values.specs.Input.{present, scheme_numbered};
+ghost use Rattle.c_values.specs.SeenLocations.{judgement_number, port_number, truth};
 
-use crate::input::scheme;
-use gix_url::{SchemeRef, UrlRef};
+use c_values::part::{default_port, truth, with_path};
 
 /// No port.
 const NO_PORT: u32 = 65_536;
@@ -74,36 +73,4 @@ pub extern "C" fn gix_url_c_port_or_default(scheme: u8, has_port: bool, port: u1
         Some(port) => u32::from(port),
         None => NO_PORT,
     }
-}
-
-/// The default port of the scheme with this number. A scheme that has a name has none.
-fn default_port(number: u8) -> Option<u16>
-    ensures { result ≡ default_port_of (scheme_numbered number []) }
-{
-    scheme(number, b"")?.default_port()
-}
-
-/// A location with this path and spelling, and no other part.
-#[inline(always)]
-fn with_path<'a>(path: &'a [u8], spelling: Option<&'a [u8]>) -> UrlRef<'a>
-    ensures path { result.path ≡ path.now }
-    ensures spelling { result.spelling ≡ option_map (λ s. s.now) spelling.entry }
-{
-    UrlRef {
-        scheme: SchemeRef::File,
-        user: None,
-        password: None,
-        host: None,
-        serialize_alternative_form: false,
-        port: None,
-        path,
-        spelling,
-    }
-}
-
-/// 1 for true, 0 for false.
-fn truth(holds: bool) -> u32
-    ensures { result ≡ truth holds }
-{
-    if holds { 1 } else { 0 }
 }

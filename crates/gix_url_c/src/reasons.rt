@@ -1,13 +1,13 @@
 //! The exports for the table of reasons: the name of a reason, and its sentence.
 
-ghost use Rattle.std.specs.Prelude.{◌≡◌};
 ghost use Rattle.git_refusals.specs.Words.{reason_name, reason_words};
-ghost use Rattle.gix_url_c.specs.Codes.{no_location, reason_number};
-ghost use Rattle.gix_url_c.specs.Left.{LeavesBuffer};
-ghost use Rattle.gix_url_c.specs.NumberedTexts.{PutsNumbered};
+ghost use Rattle.c_values.specs.Codes.{reason_number};
+ghost use Rattle.c_values.specs.Left.{LeavesBuffer};
+ghost use Rattle.c_values.specs.NumberedTexts.{PutsNumbered};
 
-use crate::buffer::write_text;
-use crate::codes::{NO_LOCATION, reason_numbered};
+use c_values::buffer::write_text;
+use c_values::codes::reason_numbered;
+use c_values::reasons::write_nothing;
 
 /// Copies the name of the reason with this number to the buffer, and reports its length: [`gix_url::Reason::name`].
 ///
@@ -36,13 +36,4 @@ pub extern "C" fn gix_url_c_reason_words(reason: u8, buffer: &mut [u8], len: &mu
         Some(reason) => write_text(reason.words().as_bytes(), buffer, len),
         None => write_nothing(len),
     }
-}
-
-/// Reports that nothing has the number.
-pub(crate) fn write_nothing(len: &mut usize) -> u32
-    ensures code { result ≡ no_location }
-    ensures length { len.new ≡ 0 }
-{
-    *len = 0;
-    NO_LOCATION
 }

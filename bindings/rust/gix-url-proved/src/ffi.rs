@@ -1,12 +1,12 @@
 //! Declares and calls the exports of the static library. All `unsafe` code is here, except that of this crate's own
 //! byte strings.
 //!
-//! Each declaration matches an export of `crates/gix_url_c/src`. A slice is a pointer that isn't null and a length.
-//! Memory for results must not overlap the inputs. Each call passes slices and structs that live until it returns, and
-//! the library keeps no pointer. A call returns numbers, and bytes in buffers of this crate, of which no more is read
-//! than the library reports as filled. The parser returns the parts of a text as slices of the text and of such a
-//! buffer. Buffers are on the stack if that is large enough, so queries allocate nothing. The calls over a
-//! configuration, and over texts that Git reads, allocate their buffers, which grow.
+//! Each declaration matches an export of `crates/gix_url_c/src`, and each type one of `crates/c_values/src`. A slice is
+//! a pointer that isn't null and a length. Memory for results must not overlap the inputs. Each call passes slices and
+//! structs that live until it returns, and the library keeps no pointer. A call returns numbers, and bytes in buffers
+//! of this crate, of which no more is read than the library reports as filled. The parser returns the parts of a text
+//! as slices of the text and of such a buffer. Buffers are on the stack if that is large enough, so queries allocate
+//! nothing. The calls over a configuration, and over texts that Git reads, allocate their buffers, which grow.
 
 use crate::borrowed::borrowed;
 use crate::bstr::BString;

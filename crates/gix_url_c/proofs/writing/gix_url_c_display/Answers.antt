@@ -1,8 +1,8 @@
 -- The result for the built location is the result for the passed one.
 use Rattle.std.proofs.Common.{subst}
 use mathlib.Core.Logic.{inr}
-use Rattle.gix_url_c.specs.Answers.{ReportsDisplay}
-use Rattle.gix_url_c.specs.Codes.{UnlessMemory}
+use Rattle.c_values.specs.Answers.{ReportsDisplay}
+use Rattle.c_values.specs.Codes.{UnlessMemory}
 use Rattle.gix_url_c.proofs.writing.gix_url_c_display.Goals as goal
 
 pub returns-in-Some-clause-reported : goal.returns-in-Some-clause-reported

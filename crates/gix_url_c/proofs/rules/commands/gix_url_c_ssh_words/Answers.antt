@@ -1,10 +1,10 @@
 -- The report for the built location and request is the report for the passed ones.
 use Rattle.std.proofs.Common.{subst}
 use mathlib.Core.Logic.{inr}
-use Rattle.gix_url_c.specs.Codes.{UnlessMemory}
-use Rattle.gix_url_c.specs.Input.{location_of}
-use Rattle.gix_url_c.specs.WordNumbers.{ReportsWords}
-use Rattle.gix_url_c.proofs.CallLemmas.{neither}
+use Rattle.c_values.specs.Codes.{UnlessMemory}
+use Rattle.c_values.specs.Input.{location_of}
+use Rattle.c_values.specs.WordNumbers.{ReportsWords}
+use Rattle.c_values.proofs.CallLemmas.{neither}
 use Rattle.gix_url_c.proofs.rules.commands.gix_url_c_ssh_words.Goals as goal
 
 pub returns-in-Some-request_of-clause-reported : goal.returns-in-Some-request_of-clause-reported

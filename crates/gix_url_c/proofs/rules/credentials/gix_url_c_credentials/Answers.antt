@@ -1,7 +1,7 @@
 -- The report for the entries is the report for the passed entries.
 use Rattle.std.proofs.Common.{◌∙◌, subst}
-use Rattle.gix_url_c.specs.Codes.{UnlessMemory}
-use Rattle.gix_url_c.specs.CredentialNumbers.{ReportsCredentials}
+use Rattle.c_values.specs.Codes.{UnlessMemory}
+use Rattle.c_values.specs.CredentialNumbers.{ReportsCredentials}
 use Rattle.gix_url_c.proofs.rules.credentials.gix_url_c_credentials.Goals as goal
 
 pub returns-in-Ok-clause-reported : goal.returns-in-Ok-clause-reported

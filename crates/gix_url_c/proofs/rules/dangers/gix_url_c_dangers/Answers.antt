@@ -1,8 +1,8 @@
 -- The report for the built location is the report for the passed one.
 use Rattle.std.proofs.Common.{subst}
 use mathlib.Core.Logic.{inr}
-use Rattle.gix_url_c.specs.Codes.{UnlessMemory}
-use Rattle.gix_url_c.specs.DangerNumbers.{ReportsDangers}
+use Rattle.c_values.specs.Codes.{UnlessMemory}
+use Rattle.c_values.specs.DangerNumbers.{ReportsDangers}
 use Rattle.gix_url_c.proofs.rules.dangers.gix_url_c_dangers.Goals as goal
 
 pub returns-in-Some-clause-reported : goal.returns-in-Some-clause-reported

@@ -1,7 +1,7 @@
 -- The report for the entries is the report for the passed entries.
 use Rattle.std.proofs.Common.{◌∙◌, subst}
 use mathlib.Core.Logic.{inr}
-use Rattle.gix_url_c.specs.ProgramNumbers.{ReportsProgram, settings_passed}
+use Rattle.c_values.specs.ProgramNumbers.{ReportsProgram, settings_passed}
 use Rattle.gix_url_c.proofs.rules.programs.gix_url_c_ssh_program.Goals as goal
 
 pub returns-in-Ok-clause-reported : goal.returns-in-Ok-clause-reported

@@ -4,8 +4,8 @@ use Rattle.std.proofs.Common.{subst}
 use mathlib.Core.Logic.{inr}
 use Rattle.git_reads.specs.Credentials.{CredentialReads}
 use Rattle.git_reads.specs.Views.{credential_reading}
-use Rattle.gix_url_c.specs.ReadingNumbers.{LacksRequest}
-use Rattle.gix_url_c.proofs.CallLemmas.{unless_memory}
+use Rattle.c_values.specs.ReadingNumbers.{LacksRequest}
+use Rattle.c_values.proofs.CallLemmas.{unless_memory}
 use Rattle.gix_url_c.proofs.rules.readings.gix_url_c_credential_reading.Goals as goal
 
 pub returns-in-Ok-Some-clause-reported : goal.returns-in-Ok-Some-clause-reported

@@ -3,7 +3,7 @@
 use Rattle.std.proofs.Common.{refl}
 use mathlib.Core.Logic.{inl, inr}
 use Rattle.git_reads.specs.Views.{git_reading}
-use Rattle.gix_url_c.proofs.CallLemmas.{unless_memory}
+use Rattle.c_values.proofs.CallLemmas.{unless_memory}
 use Rattle.gix_url_c.proofs.rules.readings.gix_url_c_git_reading.Goals as goal
 
 pub returns-in-Ok-clause-reported : goal.returns-in-Ok-clause-reported

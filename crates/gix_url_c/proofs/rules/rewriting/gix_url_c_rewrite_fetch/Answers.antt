@@ -2,8 +2,8 @@
 use Rattle.std.proofs.Common.{◌∙◌, subst}
 use Rattle.git_rules.specs.RewriteEntries.{rules_of}
 use Rattle.git_rules.specs.Rewrites.{IsRewritten}
-use Rattle.gix_url_c.specs.Codes.{UnlessMemory}
-use Rattle.gix_url_c.specs.Rewriting.{ReportsRewriting}
+use Rattle.c_values.specs.Codes.{UnlessMemory}
+use Rattle.c_values.specs.Rewriting.{ReportsRewriting}
 use Rattle.gix_url_c.proofs.rules.rewriting.gix_url_c_rewrite_fetch.Goals as goal
 
 pub returns-in-Ok-clause-reported : goal.returns-in-Ok-clause-reported

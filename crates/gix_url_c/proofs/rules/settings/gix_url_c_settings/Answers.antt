@@ -1,9 +1,9 @@
 -- The name is the bytes that are passed, which are UTF-8.
 use Rattle.std.proofs.Common.{subst}
 use mathlib.Core.Logic.{inr}
-use Rattle.gix_url_c.specs.Codes.{UnlessMemory}
-use Rattle.gix_url_c.specs.Entries.{entries_passed}
-use Rattle.gix_url_c.specs.SettingNumbers.{ReportsSettings}
+use Rattle.c_values.specs.Codes.{UnlessMemory}
+use Rattle.c_values.specs.Entries.{entries_passed}
+use Rattle.c_values.specs.SettingNumbers.{ReportsSettings}
 use Rattle.gix_url_c.proofs.rules.settings.gix_url_c_settings.Goals as goal
 
 pub returns-clause-reported : goal.returns-clause-reported
